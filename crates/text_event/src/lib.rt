@@ -1,8 +1,8 @@
 // What comes next in an index text: a loop over a text takes a number, a row's end, a run or a row's beginning at a time, and the bytes between them are read here. Runs of two small numbers, of which a text has the most, and the beginnings of rows are read without the automaton's states.
-// Small numbers are told as one number, so that nothing goes through memory for each run: a natural number as 16 times its value and its length, a run as its ends and its length (`left_of`, `right_of`, `length_of`). 0 is none.
+// Small numbers are told as one number, so that nothing goes through memory for each run: a natural number as 16 times its value and its length, a run as its ends and its length (`left_of`, `right_of`, `length_of`).
 #![tactic(auto)]
 
-ghost use Rattle.std.specs.Prelude.{◌≡◌, true, ◌+◌, ◌<◌, ◌≤◌, length};
+ghost use Rattle.std.specs.Prelude.{◌≡◌, true, ◌+◌, ◌<◌, ◌≤◌, length, IfSome};
 ghost use Rattle.text_index.specs.Step.{GoodState};
 ghost use Rattle.text_event.specs.Event.{left_of, right_of, length_of, DigitsAt, NumberAt, BodyAt, PlainAt, at_runs, at_first, at_rows, WordAt, BlankAt, SignedAt, RangeAt, Opens, Ends, EventAt};
 
@@ -36,15 +36,15 @@ fn digits(text: &[u8], at: usize, first: u64) -> u64
 }
 
 // A number of at most eight digits that begins with one of 1 to 9.
-fn number_at(text: &[u8], at: usize) -> u64
+fn number_at(text: &[u8], at: usize) -> Option<u64>
     requires { at + 8 ≤ length text.now }
-    ensures { 0 < result → NumberAt text.now at result }
+    ensures { IfSome result (λ q. NumberAt text.now at q) }
 {
     let b = text[at];
     if b < b'1' || b'9' < b {
-        return 0;
+        return None;
     }
-    digits(text, at + 1, (b - b'0') as u64) + 1
+    Some(digits(text, at + 1, (b - b'0') as u64) + 1)
 }
 
 // The word stands in the text from a place on.
@@ -56,27 +56,21 @@ fn stands(text: &[u8], at: usize, word: &[u8]) -> bool
 }
 
 // A run behind its bracket.
-fn run_body(text: &[u8], at: usize) -> u64
+fn run_body(text: &[u8], at: usize) -> Option<u64>
     requires { at + 18 ≤ length text.now }
-    ensures { 0 < result → BodyAt text.now at result }
+    ensures { IfSome result (λ q. BodyAt text.now at q) }
 {
-    let a = number_at(text, at);
-    if a == 0 {
-        return 0;
-    }
+    let a = number_at(text, at)?;
     let m = a % 16;
     if !stands(text, at + (m as usize), b" ") {
-        return 0;
+        return None;
     }
-    let b = number_at(text, at + (m as usize) + 1);
-    if b == 0 {
-        return 0;
-    }
+    let b = number_at(text, at + (m as usize) + 1)?;
     let n = m + b % 16 + 1;
     if !stands(text, at + (n as usize), b")") {
-        return 0;
+        return None;
     }
-    ((a / 16) * 134217728 + b / 16) * 32 + (n + 1)
+    Some(((a / 16) * 134217728 + b / 16) * 32 + (n + 1))
 }
 
 // There are n bytes from a place on.
@@ -87,31 +81,23 @@ fn roomy(text: &[u8], at: usize, n: usize) -> bool
 }
 
 // A run, where one may stand; twenty bytes are the most that it can have here.
-pub fn plain_run(text: &[u8], at: usize) -> u64
-    ensures { 0 < result → PlainAt text.now at_runs at result }
+pub fn plain_run(text: &[u8], at: usize) -> Option<u64>
+    ensures { IfSome result (λ q. PlainAt text.now at_runs at q) }
 {
     if !roomy(text, at, 20) || !stands(text, at, b" (") {
-        return 0;
+        return None;
     }
-    let q = run_body(text, at + 2);
-    if q == 0 {
-        return 0;
-    }
-    q + 2
+    Some(run_body(text, at + 2)? + 2)
 }
 
 // The first run of a row, behind its blank.
-fn first_run(text: &[u8], at: usize) -> u64
-    ensures { 0 < result → PlainAt text.now at_first at result }
+fn first_run(text: &[u8], at: usize) -> Option<u64>
+    ensures { IfSome result (λ q. PlainAt text.now at_first at q) }
 {
     if !roomy(text, at, 20) || !stands(text, at, b"(") {
-        return 0;
+        return None;
     }
-    let q = run_body(text, at + 1);
-    if q == 0 {
-        return 0;
-    }
-    q + 1
+    Some(run_body(text, at + 1)? + 1)
 }
 
 pub fn run_left(q: u64) -> u32
@@ -133,18 +119,15 @@ pub fn run_length(q: u64) -> usize
 }
 
 // A number with a blank behind it.
-fn number_and_blank(text: &[u8], at: usize) -> u64
+fn number_and_blank(text: &[u8], at: usize) -> Option<u64>
     requires { at + 9 ≤ length text.now }
-    ensures { 0 < result → BlankAt text.now at result }
+    ensures { IfSome result (λ q. BlankAt text.now at q) }
 {
-    let q = number_at(text, at);
-    if q == 0 {
-        return 0;
-    }
+    let q = number_at(text, at)?;
     if !stands(text, at + ((q % 16) as usize), b" ") {
-        return 0;
+        return None;
     }
-    q
+    Some(q)
 }
 
 // A number with or without a sign, and the place behind the blank that follows it.
@@ -153,16 +136,10 @@ fn signed_at(text: &[u8], at: usize) -> Option<(i64, usize)>
     ensures { SignedAt text.now at result }
 {
     if text[at] == b'-' {
-        let q = number_and_blank(text, at + 1);
-        if q == 0 {
-            return None;
-        }
+        let q = number_and_blank(text, at + 1)?;
         return Some((-((q / 16) as i64), at + 1 + ((q % 16) as usize) + 1));
     }
-    let q = number_and_blank(text, at);
-    if q == 0 {
-        return None;
-    }
+    let q = number_and_blank(text, at)?;
     Some(((q / 16) as i64, at + ((q % 16) as usize) + 1))
 }
 
@@ -216,10 +193,9 @@ fn rows_event(text: &[u8], at: usize) -> Event
     let Some((low, up, j)) = range_at(text, at) else {
         return byte_event(text, State::Before(Turn::Rows), at);
     };
-    let q = first_run(text, j);
-    if q == 0 {
+    let Some(q) = first_run(text, j) else {
         return byte_event(text, State::Before(Turn::Rows), at);
-    }
+    };
     Event::Row(low, up, run_left(q), run_right(q), j + run_length(q))
 }
 
@@ -227,8 +203,7 @@ fn rows_event(text: &[u8], at: usize) -> Event
 fn runs_event(text: &[u8], at: usize) -> Event
     ensures { EventAt text.now at_runs at result }
 {
-    let q = plain_run(text, at);
-    if q != 0 {
+    if let Some(q) = plain_run(text, at) {
         return Event::Run(run_left(q), run_right(q), at + run_length(q));
     }
     if ends(text, at) {

@@ -1,4 +1,5 @@
 // The index text read byte by byte, `(index (window 2) (width 2) (windows 4)`, rows, `)`: the state is a value, and what the text says comes as events.
+// `text_lines` has the same shape over other words. Each stands by itself, since the laws above name its states.
 #![tactic(auto)]
 
 ghost use Rattle.std.specs.Prelude.{◌≡◌, ◌<◌, length};

@@ -223,14 +223,11 @@ pub fn tell_runs(text: &[u8], t: Tally, at: usize) -> TallyAt
 {
     let mut tally = t;
     let mut i = at;
-    loop {
-        let q = plain_run(text, i);
-        if q == 0 {
-            return TallyAt { tally, at: i };
-        }
+    while let Some(q) = plain_run(text, i) {
         tally = tell_run(tally, run_left(q), run_right(q));
         i += run_length(q);
     }
+    TallyAt { tally, at: i }
 }
 
 // What a row's end says.

@@ -1,4 +1,5 @@
 // The series line and the five lines of the search program read byte by byte: the state is a value, and what the text says comes as events.
+// `text_index` has the same shape over other words. Each stands by itself, since the laws above name its states.
 #![tactic(auto)]
 
 ghost use Rattle.std.specs.Prelude.{◌≡◌, ◌<◌, length};

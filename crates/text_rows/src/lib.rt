@@ -94,6 +94,7 @@ fn row_from(text: &[u8], at: usize, s: State, t: Tally) -> Line
                     row: make_row(tally),
                 };
             }
+            // one pattern for both would not know what the event promises
             Event::Refuse(n, j) => return line_end(n, j, tally),
             Event::End(n, j) => return line_end(n, j, tally),
         }

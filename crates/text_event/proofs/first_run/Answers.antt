@@ -1,9 +1,8 @@
 -- `first_run`: a bracket, and the run behind it.
-use Rattle.meaning_numbers.proofs.Prelude.{arith}
 use Rattle.meaning_text.specs.Bytes.{bytes}
 use Rattle.text_event.proofs.Steps.{first-told}
 use Rattle.text_event.proofs.first_run.Goals as goal
 
 pub returns : goal.returns
 unfolding bytes
-returns c = λ h. first-told _ _ _ (c.stands.ensures.0 c.if-not-stands.false) (c.run_body-q.ensures (omega arith))
+returns c = first-told _ _ _ (c.stands.ensures.0 c.if-not-stands.false) c.in_ok-run_body.ensures

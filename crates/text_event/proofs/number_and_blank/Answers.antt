@@ -4,4 +4,4 @@ use Rattle.text_event.proofs.number_and_blank.Goals as goal
 
 pub returns : goal.returns
 unfolding bytes
-returns c = λ h. record { number = c.number_at-q.ensures h; blank = c.stands.ensures.0 c.if-not-stands.false }
+returns c = record { number = c.in_ok-q.ensures; blank = c.stands.ensures.0 c.if-not-stands.false }
