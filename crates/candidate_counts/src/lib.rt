@@ -14,6 +14,7 @@ ghost use Rattle.candidate_counts.specs.Raise.{bump, between, reached, Raised};
 use clear::clear;
 
 // The count of an offset whose window the part admits: one more where it stands at the part's number.
+#[tactic(auto, unfolding(crate::specs::Raise::bump))]
 pub fn bumped(n: u16, part: u16) -> u16
     requires { part < 65535 }
     ensures { result ≡ bump true part n }
@@ -69,6 +70,7 @@ pub struct Found {
 }
 
 // Offset `j` taken in behind `k` runs, if it is `here`: it joins the last run where the offset before it is in it, and else begins a run; how many runs there are then.
+#[tactic(auto, unfolding(meaning_numbers::specs::Sum::bit, meaning_rows::proofs::Columns::put_left, meaning_rows::proofs::Columns::put_right))]
 pub fn put(here: bool, prev: bool, j: usize, k: usize, left: &mut [u32], right: &mut [u32]) -> usize
     requires j_bound { j < 4294967296 }
     requires prev_in_bounds { (k + bit (here && not prev) ≤ length left.old) × (k + bit (here && not prev) ≤ length right.old) × (bit prev ≤ k) }

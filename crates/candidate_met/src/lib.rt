@@ -45,6 +45,7 @@ pub fn reached_runs(r: Row, high: i32) -> usize
 }
 
 // The runs of the rows from row `a` up to row `b`, of `n` rows: those of row `b` too where it begins at or below `high`.
+#[tactic(auto, unfolding(crate::specs::Met::span_of))]
 pub fn span_of(n: usize, a: usize, b: usize, first: Row, last: Row, edge: Row, high: i32) -> Span
     ensures { result ≡ span_of n a b first last edge high }
 {

@@ -1,5 +1,5 @@
 -- The sizes of a frame's numbers, within the limits of a query: all products fit 64 bits (`frame-in`).
-use Rattle.meaning_numbers.specs.{Root.root, Order.minℤ, Order.maxℤ}
+use Rattle.meaning_numbers.specs.{Root.root}
 use Rattle.meaning_numbers.proofs.Root.{root_is, le-of-sq-le}
 use Rattle.meaning_numbers.proofs.Prelude.{◌≡◌, ◌∙◌, ℕ, ◌*◌, ◌/◌, ◌≤◌, arith, mul-le-mul, div-le_self, ℤ, pos, ◌+ℤ◌, ◌-ℤ◌, ◌*ℤ◌, w64, SFits, to_z, of_z}
 use Rattle.meaning_filter.specs.{declared.Kind.Kind, declared.Kind.TheVariants.Raw, declared.Kind.TheVariants.Normal, declared.Limits.Limits, Range.low_scale, Range.high_scale}

@@ -84,6 +84,7 @@ pub fn normal_frame(m: u64, w: u64, l: Limits, q: Query) -> Frame
 }
 
 // What the ranges of a query share.
+#[tactic(auto, unfolding(crate::specs::Frame::frame_of))]
 pub fn frame_of(kind: Kind, m: u64, w: u64, l: Limits, q: Query) -> Frame
     requires { QueryIn m w l q.values q.spread }
     ensures { result ≡ frame_of kind q.spread (pos q.values -ℤ pos (greatest_value * m)) m l w }

@@ -17,6 +17,7 @@ use meaning_filter::{Kind, Limits};
 use meaning_rows::Row;
 
 // Two numbers stored as entry `i` of two columns.
+#[tactic(auto, using(crate::proofs::Held::stored))]
 pub fn store_pair(first: &mut [u32], last: &mut [u32], i: usize, a: u32, b: u32)
     requires { (i < length first.old) × (i < length last.old) }
     ensures { Stored i a b first.old last.old first.new last.new }

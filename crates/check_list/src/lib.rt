@@ -180,6 +180,7 @@ pub fn check_each(
 }
 
 // Where the list ends that hands out some of `n` matches, in two slices of so many entries.
+#[tactic(auto, unfolding(crate::specs::Listed::end_of))]
 pub fn list_end(pick: Pick, n: usize, offsets: usize, distances: usize) -> usize
     ensures { result ≡ end_of pick n (min offsets distances) }
 {

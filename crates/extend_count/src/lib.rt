@@ -84,6 +84,7 @@ pub fn count_new(
 }
 
 // The row's last run in the right column ends right before `j`.
+#[tactic(auto, unfolding(meaning_rows::proofs::Grown::last_ends))]
 pub fn last_ends(r: Row, right: &[u32], j: usize) -> bool
     requires { r.first + r.runs ≤ length right.now }
     ensures { result ≡ last_ends r right.now j }

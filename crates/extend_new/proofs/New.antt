@@ -1,7 +1,7 @@
 -- Laws of specs/New.
 use Rattle.meaning_numbers.proofs.Sum.{Σℤ-same}
 use Rattle.meaning_numbers.proofs.Prelude.{◌≡◌, refl, ap, ◌∙◌, List, map, ℕ, zero, suc, ◌+◌, ◌-◌, ◌*◌, ◌<◌, arith, ltb, ℤ, pos, length, get_or, take, drop, length-drop, get_or-drop, take_all, ltb-true, ltb-false, by-test}
-use Rattle.meaning_curves.specs.Curve.{at, stretch, window_sum}
+use Rattle.meaning_curves.specs.Curve.{stretch, window_sum}
 use Rattle.meaning_rows.specs.Build.{row_numbers}
 use Rattle.sums_slide.specs.Levels.{Lent, windows_of}
 use Rattle.sums_count.specs.Numbers.{lowered}

@@ -35,6 +35,7 @@ pub fn list_new(
 }
 
 // The count of row `i` is one less where the first new run joins an old one. A flag and no Option of the row, which is known in either case: `less_join` says both.
+#[tactic(auto, unfolding(crate::specs::New::less_join))]
 pub fn take_join(joins: bool, i: usize, counts: &mut [u32])
     requires { joins ≡ true → (i < length counts.old) × (1 ≤ get_or counts.old i 0) }
     ensures { counts.new ≡ less_join joins i counts.old }

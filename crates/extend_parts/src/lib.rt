@@ -36,6 +36,7 @@ pub fn lay_rows(ends: &[u32], count: usize, rows: &mut [Row])
 }
 
 // How many old runs a row has: those of the old row, if it is the same one.
+#[tactic(auto, unfolding(crate::specs::Copy::part_size))]
 pub fn part_size(o: Row, r: Row) -> u32
     ensures { result ≡ part_size o r }
 {
@@ -68,6 +69,7 @@ pub fn copy_part(o: Row, r: Row, from: &[u32], to: &mut [u32])
 }
 
 // How many old rows are passed after a row: one more, if it is the next old row.
+#[tactic(auto, unfolding(crate::specs::Copy::old_passed))]
 pub fn old_passed(a: usize, o: Row, r: Row) -> usize
     requires { a < 18446744073709551615 }
     ensures { result ≡ old_passed a o r }

@@ -53,6 +53,7 @@ pub fn count_windows(
 }
 
 // The first new window; 0 if no window is new.
+#[tactic(auto, unfolding(crate::specs::Steps::first_new))]
 pub fn first_new(s: &[i32], w: usize, old: usize) -> usize
     requires { w ≤ length s.now }
     ensures { result ≡ first_new s.now w old }

@@ -1,4 +1,3 @@
 -- Laws of extend_weave.
-pub mod Tests
 pub mod Weave
 pub mod Woven

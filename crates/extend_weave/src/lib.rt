@@ -22,6 +22,7 @@ pub fn end_row() -> Row
 }
 
 // The low end of the range of number `i` of the first `count`, which are raised by `base`; past them an end above every range.
+#[tactic(auto, unfolding(crate::specs::Turn::low_at))]
 pub fn low_at(numbers: &[u32], count: usize, d: u64, base: u64, i: usize) -> i32
     requires { Cells numbers.now count d base }
     ensures { result ≡ low_at numbers.now count d base i }
@@ -35,6 +36,7 @@ pub fn low_at(numbers: &[u32], count: usize, d: u64, base: u64, i: usize) -> i32
 }
 
 // The record that a turn writes: a new row where the range at `low` lies below the next old row, else that row.
+#[tactic(auto, unfolding(crate::specs::Turn::chosen_of))]
 pub fn chosen(r: Row, low: i32, d: u64) -> Row
     requires { Cell low d }
     ensures { result ≡ chosen_of r low d }
@@ -53,6 +55,7 @@ pub fn chosen(r: Row, low: i32, d: u64) -> Row
 }
 
 // How many old rows are passed after a turn: the next one is, where it does not reach `low`.
+#[tactic(auto, unfolding(crate::specs::Turn::old_after))]
 pub fn old_after(a: usize, r: Row, low: i32) -> usize
     requires { a < 18446744073709551615 }
     ensures { result ≡ old_after a r low }
@@ -62,6 +65,7 @@ pub fn old_after(a: usize, r: Row, low: i32) -> usize
 }
 
 // How many numbers are passed after a turn.
+#[tactic(auto, unfolding(crate::specs::Turn::number_after))]
 pub fn number_after(b: usize, r: Row, low: i32) -> usize
     requires { b < 18446744073709551615 }
     ensures { result ≡ number_after b r low }
@@ -71,6 +75,7 @@ pub fn number_after(b: usize, r: Row, low: i32) -> usize
 }
 
 // How many records are made after a turn: one more, but where the next old row holds the range.
+#[tactic(auto, unfolding(crate::specs::Turn::made_after))]
 pub fn made_after(k: usize, r: Row, low: i32) -> usize
     requires { k < 18446744073709551615 }
     ensures { result ≡ made_after k r low }
