@@ -1,6 +1,5 @@
 -- A turn of the pass: one run of windows with sums in the range of a row, filed in the row's part.
 use Rattle.std.specs.Prelude.{ℕ, ◌+◌, ◌-◌, ◌<◌, ◌≤◌, ℤ, pos, negsuc, set, ◌≤ℤ◌, true, List, ◌≡◌}
-use Rattle.meaning_numbers.proofs.Rep.{up}
 use Rattle.meaning_curves.specs.Curve.{window_sum}
 use Rattle.meaning_rows.specs.{declared.Row.Row, Range.inside}
 use Rattle.meaning_rows.proofs.Cursors.{file_right}

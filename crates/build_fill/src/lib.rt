@@ -24,12 +24,11 @@ pub fn file_turn(
     requires { TurnAsked s.now w e at r left.old right.old }
     ensures { Turned s.now w e at.offset r left.old right.old result left.new right.new }
 {
-    let from = at.offset;
     let bias = RAISE * (w as u64) + e;
     let lo = raise_end(r.low, bias);
     let hi = raise_end(r.up, bias);
     let next = next_out(s, w, e, at, lo, hi);
-    file_run(r, from, next.offset, left, right);
+    file_run(r, at.offset, next.offset, left, right);
     next
 }
 
@@ -53,7 +52,6 @@ pub fn fill_parts(
     while at.offset < windows {
         let sum = sum_of(w, e, at);
         let r = find_record(rows, count, sum);
-        let next = file_turn(s, w, e, at, r, left, right);
-        at = next;
+        at = file_turn(s, w, e, at, r, left, right);
     }
 }

@@ -9,44 +9,28 @@ ghost use Rattle.sums_slide.specs.Levels.{windows_of};
 ghost use Rattle.rows_pack.specs.PackedAs.{PackedAs};
 ghost use Rattle.build_lay.specs.Laid.{LayAsked, LaidOut, Cleared};
 
-use clear::clear_u32;
+use clear::clear;
 use meaning_rows::Row;
 use rows_pack::{pack_rows, sum_up};
 use sums_count::plan;
 
-// The row numbers of the windows in `left`, and beside each in `right` where the row's part of the run buffer ends; how many rows there are. What the flags hold does not matter.
-pub fn lay_out_by(
-    flags: [u8; 262144],
-    s: &[i32],
-    w: usize,
-    e: u64,
-    d: u64,
-    left: &mut [u32],
-    right: &mut [u32],
-) -> usize
-    requires { LayAsked s.now w e d left.old right.old }
-    ensures { LaidOut s.now w e d result left.new right.new }
-{
-    let mut marks = flags;
-    let n = plan(s, w, e, d, &mut marks, left, right);
-    sum_up(right, n);
-    n
-}
-
-// The same, with flags of its own.
+// The row numbers of the windows in `left`, and beside each in `right` where the row's part of the run buffer ends; how many rows there are.
 pub fn lay_out(s: &[i32], w: usize, e: u64, d: u64, left: &mut [u32], right: &mut [u32]) -> usize
     requires { LayAsked s.now w e d left.old right.old }
     ensures { LaidOut s.now w e d result left.new right.new }
 {
-    lay_out_by([0; 262144], s, w, e, d, left, right)
+    let mut flags = [0; 262144];
+    let n = plan(s, w, e, d, &mut flags, left, right);
+    sum_up(right, n);
+    n
 }
 
 // Both columns of the run buffer are made 0.
 pub fn clear_runs(left: &mut [u32], right: &mut [u32])
     ensures { Cleared left.old left.new × Cleared right.old right.new }
 {
-    clear_u32(left, 0);
-    clear_u32(right, 0);
+    clear(left, 0, 0);
+    clear(right, 0, 0);
 }
 
 // The records of the rows before merging are packed in `rows`; how many there are. `bias` is what sums are raised by in all.

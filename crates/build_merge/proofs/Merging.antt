@@ -1,12 +1,10 @@
 -- Laws of specs/Merging.
-use Rattle.meaning_numbers.specs.Sum.{count}
 use Rattle.meaning_numbers.proofs.Sum.{Σℕ-none, Σℕ-more, Σℕ-fewer}
 use Rattle.meaning_numbers.proofs.Prelude.{◌≡◌, refl, sym, ap, ◌∙◌, true, false, List, [], ◌∷◌, ◌++◌, map, append_assoc, ℕ, suc, ◌+◌, ◌*◌, ◌<◌, ◌≤◌, arith, add-one, ltb, length, get_or, take, drop, set, length-map, length-append, length-set, drop-cons, take-set-le, drop-set-lt, take-suc-set, by-test}
 use Rattle.meaning_rows.specs.Build.{SetRow, join, takes, upward, merged, entry, with_runs}
 use Rattle.meaning_rows.specs.{declared.Row.Row, Runs.runs, Runs.run_count, Index.records}
 use Rattle.meaning_rows.proofs.{Runs.runs-cong, Runs.runs-le, Build.upward-yes, Build.upward-no}
 use Rattle.rows_records.specs.Records.{zero_row}
-use Rattle.sums_slide.specs.Levels.{within}
 use Rattle.sums_count.specs.Tally.{is_row}
 use Rattle.rows_pack.specs.PackedAs.{PackedAs}
 use Rattle.build_merge.specs.{declared.Group.Group, Names.NamedRow, Merging.Numbered, Merging.part_at, Merging.Rows, Merging.Ready, Group.touching, Group.first_group, Group.union_runs, Group.joined, Group.begun, Group.next_group, Group.Joinable}

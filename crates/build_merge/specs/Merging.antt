@@ -1,6 +1,6 @@
 -- Merging over packed rows. The rows are sets of windows, window j in row `row j`; the decision is that of `takes`, by counts of names.
 use Rattle.std.specs.Prelude.{ℕ, ◌+◌, ◌<◌, ◌≤◌, length, List, [], ◌∷◌, ◌≡◌}
-use Rattle.meaning_numbers.specs.Sum.{Σℕ, count}
+use Rattle.meaning_numbers.specs.Sum.{Σℕ}
 use Rattle.meaning_rows.specs.{declared.Row.Row, Runs.run_count, Build.SetRow}
 use Rattle.sums_count.specs.Tally.{is_row}
 use Rattle.rows_pack.specs.PackedAs.{PackedAs}

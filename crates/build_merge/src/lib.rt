@@ -27,14 +27,10 @@ pub fn count_names(names: &[u32], first: usize, n: usize, lo: u64, hi: u64) -> u
     ensures value { result ≡ count (names_of names.now first lo hi) n }
     ensures upper_bound { result ≤ n }
 {
-    let mut k: usize = 0;
-    let mut t: usize = 0;
-    while t < n {
-        if in_range(lo, hi, names[first + t] as u64) {
+    let mut k = 0;
+    for &name in &names[first..first + n] {
+        if in_range(lo, hi, name as u64) {
             k += 1;
-            t += 1;
-        } else {
-            t += 1;
         }
     }
     k
@@ -58,32 +54,22 @@ pub fn merge_row(m: Group, i: usize, r: Row, left: &[u32], right: &[u32], g: u64
     requires { Joinable m i r left.now right.now g }
     ensures { result ≡ next_group left.now right.now g m i r }
 {
-    let place = m.place;
-    let from = m.from;
-    let row = m.row;
-    let both = row.runs as u64 + r.runs as u64;
-    let union = both - count_touching(left, right, r, from, i) as u64;
+    let both = m.row.runs as u64 + r.runs as u64;
+    let union = both - count_touching(left, right, r, m.from, i) as u64;
     if 100 * union < g * both {
         let joined = Row {
-            low: row.low,
             up: r.up,
-            first: row.first,
             runs: union as u32,
+            ..m.row
         };
-        Group {
-            place,
-            from,
-            row: joined,
-        }
+        Group { row: joined, ..m }
     } else {
         let begun = Row {
-            low: r.low,
-            up: r.up,
-            first: row.first + row.runs,
-            runs: r.runs,
+            first: m.row.first + m.row.runs,
+            ..r
         };
         Group {
-            place: place + 1,
+            place: m.place + 1,
             from: i,
             row: begun,
         }
@@ -106,16 +92,10 @@ pub fn merge_rows(rows: &mut [Row], n: usize, left: &[u32], right: &[u32], g: u6
     requires { Mergeable rows.old n left.now right.now × (g ≤ greatest_merge) }
     ensures { (t : Rows) → Ready t rows.old n left.now right.now → PackedAs t.windows (merged g t.windows t.list) rows.new result }
 {
-    let start = rows[0];
-    let mut m = first_group(start);
-    let mut i: usize = 1;
-    while i < n {
-        let r = rows[i];
-        m = merge_row(m, i, r, left, right, g);
-        let k = m.place;
-        let row = m.row;
-        rows[k] = row;
-        i += 1;
+    let mut m = first_group(rows[0]);
+    for i in 1..n {
+        m = merge_row(m, i, rows[i], left, right, g);
+        rows[m.place] = m.row;
     }
     m.place + 1
 }

@@ -9,7 +9,7 @@ use Rattle.sums_slide.proofs.Levels.{level-is, sum_is}
 use Rattle.sums_count.specs.Tally.{is_row}
 use Rattle.build_parts.specs.Part.{written, PartRoom}
 use Rattle.build_merge.specs.{Names.name_at, Names.name_before, Names.NamedRow, Merging.part_at}
-use Rattle.build_names.specs.{Ranges.LimitedRow, Ranges.row_in, Places.name_for, Places.name_in, Places.Nameable, Places.Unnamed}
+use Rattle.build_names.specs.{Ranges.LimitedRow, Ranges.row_in, Places.name_for, Places.name_in, Places.entry_of, Places.Nameable, Places.Unnamed}
 use Rattle.build_names.proofs.Ranges.{range-climbs, stop-run}
 use Rattle.build_names.proofs.Naming.{Naming, naming-start, naming-more, naming-written, naming-room, naming-run, naming-end}
 
@@ -21,11 +21,11 @@ module _ (s : List ℤ) (w e : ℕ) (rows : List Row) (count : ℕ) where
   row = row_in rows count (window_sum s w)
 
   abbrev named : Window → ℕ
-  named at = name_in rows count (length s) w e at
+  named at = entry_of (name_in rows count (length s) w e at)
 
   named-is : (at : Window) → Lent s w e → at.level ≡ level s w e at.offset → named at ≡ name_at row n at.offset
   unfolding name_for name_at row_in
-  named-is at h l = rw (sum_is at h l)
+  named-is at h l = rw (sum_is at h l) (by-test (ltb at.offset n) (λ t. rw t refl) (λ f. rw f refl))
 
   -- where a window begins a run, with the names before and at it
   pub record Underway (left₀ right₀ : List ℕ) (at : Window) (before name : ℕ) (left right : List ℕ) : Type 0 where

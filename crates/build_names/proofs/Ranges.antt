@@ -1,5 +1,5 @@
 -- Laws of specs/Ranges.
-use Rattle.meaning_numbers.proofs.Prelude.{◌≡◌, refl, sym, ◌∙◌, Bool, true, false, List, ℕ, zero, suc, ◌<◌, ◌≤◌, arith, dec_lt, eqb, ℤ, pos, negsuc, get_or, le_z, ◌≤ℤ◌, ◌<ℤ◌, ≤ℤ_refl, eqb-true, eqb-false, eq-eqb, Rep, up, zarith, f-gt, le_z-true, by-test, clash}
+use Rattle.meaning_numbers.proofs.Prelude.{◌≡◌, refl, sym, ◌∙◌, Bool, true, false, List, ℕ, zero, suc, ◌<◌, ◌≤◌, arith, dec_lt, eqb, ℤ, pos, negsuc, get_or, le_z, ◌≤ℤ◌, ◌<ℤ◌, ≤ℤ_refl, eqb-true, eqb-false, eq-eqb, Rep, zarith, f-gt, le_z-true, by-test, clash}
 use Rattle.meaning_rows.specs.{declared.Row.Row, Range.inside}
 use Rattle.meaning_rows.proofs.Range.{le-le_z, lt-le_z, inside-yes, is-inside}
 use Rattle.rows_records.specs.Records.{zero_row}

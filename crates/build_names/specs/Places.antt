@@ -1,18 +1,24 @@
 -- Windows by place and raised sum, their names, and what holds on the way of the pass that names neighbours.
-use Rattle.std.specs.Prelude.{ℕ, ◌+◌, ◌≤◌, ltb, ℤ, length, get_or, cond, List, ◌≡◌}
+use Rattle.std.specs.Prelude.{ℕ, ◌+◌, ◌≤◌, ltb, ℤ, length, get_or, cond, List, ◌≡◌, Some, None}
+use Rattle.std.specs.declared.option.Option.{Option}
 use Rattle.meaning_curves.specs.Curve.{window_sum, window_count}
 use Rattle.meaning_rows.specs.declared.Row.{Row}
-use Rattle.sums_slide.specs.{declared.Window.Window, Levels.level, Levels.Lent, Levels.windows_of, Levels.level-small, Levels.sum_at}
+use Rattle.sums_slide.specs.{declared.Window.Window, Levels.Lent, Levels.windows_of, Levels.sum_at}
 use Rattle.rows_find.specs.Search.{Climbs}
 use Rattle.build_merge.specs.Merging.{part_at}
 use Rattle.build_names.specs.Ranges.{place_in, row_in, RangeRows}
 
 -- the name of row i, where window j is one of those of len values
-unfoldable pub name_for : ℕ → ℕ → ℕ → ℕ → ℕ
-name_for len w j i = cond (ltb j (window_count len w)) (i + 1) 0
+unfoldable pub name_for : ℕ → ℕ → ℕ → ℕ → Option ℕ
+name_for len w j i = cond (ltb j (window_count len w)) (Some i) None
+
+-- what an entry has of a name: one more, and 0 of none
+abbrev pub entry_of : Option ℕ → ℕ
+entry_of None = 0
+entry_of (Some i) = i + 1
 
 -- the name of a window's row among the first `count`
-abbrev pub name_in : List Row → ℕ → ℕ → ℕ → ℕ → Window → ℕ
+abbrev pub name_in : List Row → ℕ → ℕ → ℕ → ℕ → Window → Option ℕ
 name_in rows count len w e at = name_for len w at.offset (place_in rows count (sum_at w e at))
 
 -- a window's row can be named

@@ -1,9 +1,9 @@
 -- Laws of specs/Plan.
-use Rattle.meaning_numbers.proofs.Prelude.{List, ℕ, ◌≤◌, T, ℤ, pos, length, zarith}
+use Rattle.meaning_numbers.proofs.Prelude.{List, ℕ, ◌≤◌, ℤ, pos, length, zarith}
 use Rattle.meaning_curves.specs.{Limits.most_values, Curve.window_count}
 use Rattle.meaning_curves.proofs.Values.{AllIn}
 use Rattle.meaning_entries.specs.Build.{lent_build, build_lines}
-use Rattle.meaning_entries.proofs.Refused.{AllPass, open_lines, passed-line, passed-behind, lacks}
+use Rattle.meaning_entries.proofs.Refused.{AllPass, open_lines, passed-line, passed-behind}
 use Rattle.meaning_entries.proofs.Lines.{long-line, values-line, window-line, width-line, merge-line, room-line}
 
 -- numbers in their limits, and room
@@ -20,10 +20,6 @@ pub record Goes (s : List ℤ) (w d g rows runs : ℕ) : Type 0 where
   pub in-runs : window_count (length s) w ≤ runs
 
 module _ (s : List ℤ) (w d g rows runs : ℕ) where
-  pub never-0 : T (lacks 0 (build_lines (lent_build s w d g) rows runs))
-  unfolding open_lines lacks
-  never-0 = tt
-
   pub goes : AllPass (build_lines (lent_build s w d g) rows runs) → Goes s w d g rows runs
   unfolding open_lines
   goes t =

@@ -3,19 +3,19 @@
 
 ghost use Rattle.std.specs.Prelude.{◌≡◌};
 ghost use Rattle.meaning_entries.specs.Build.{lent_build, build_lines};
-ghost use Rattle.refusals.specs.Refusal.{refusal_of};
+ghost use Rattle.refusals.specs.Refusal.{verdict};
 ghost use Rattle.build_plan.specs.Plan.{Planned};
 
-use numbers::{RAISE, shorter};
+use meaning_entries::{Reason, Refusal};
+use numbers::RAISE;
 use refusals::{
-    Refusal, merge_outside, refuse_if, refuse_room, refuse_series, width_outside, window_outside,
+    merge_outside, refuse_if, refuse_room, refuse_series, width_outside, window_outside,
 };
 use sums_slide::raised_rows;
 
-// What refuses the call; where nothing does, window length and row width, and what sums are raised by: `extra` beside 10,000 for each value, `bias` in all.
+// Of a build that nothing refuses: window length and row width, and what sums are raised by: `extra` beside 10,000 for each value, `bias` in all.
 #[derive(Clone, Copy)]
 pub struct BuildPlan {
-    pub refusal: Refusal,
     pub window: usize,
     pub width: u64,
     pub extra: u64,
@@ -23,15 +23,22 @@ pub struct BuildPlan {
 }
 
 // What refuses a build, where there is room for so many rows and runs.
-pub fn refuse_build(series: &[i32], w: u32, d: u32, g: u32, rows: usize, runs: usize) -> Refusal
-    ensures { result ≡ refusal_of (build_lines (lent_build series.now w d g) rows runs) }
+pub fn refuse_build(
+    series: &[i32],
+    w: u32,
+    d: u32,
+    g: u32,
+    rows: usize,
+    runs: usize,
+) -> Result<(), Refusal>
+    ensures { result ≡ verdict (build_lines (lent_build series.now w d g) rows runs) }
 {
     let n = series.len();
-    let room = refuse_room(rows, runs, w, n);
-    let merge = refuse_if(merge_outside(g), 5, room);
-    let width = refuse_if(width_outside(d), 4, merge);
-    let window = refuse_if(window_outside(w, n), 3, width);
-    refuse_series(series, window)
+    refuse_series(series)?;
+    refuse_if(window_outside(w, n), Reason::Window)?;
+    refuse_if(width_outside(d), Reason::Width)?;
+    refuse_if(merge_outside(g), Reason::Merge)?;
+    refuse_room(rows, runs, w, n)
 }
 
 // The plan of a build, where there is room for `rows` rows and for runs in columns of `left` and `right` entries. The bias is a multiple of the row width.
@@ -43,27 +50,17 @@ pub fn make_plan(
     rows: usize,
     left: usize,
     right: usize,
-) -> BuildPlan
+) -> Result<BuildPlan, Refusal>
     ensures { Planned series.now w d g rows left right result }
 {
-    let refusal = refuse_build(series, w, d, g, rows, shorter(left, right));
-    if refusal.number != 0 {
-        return BuildPlan {
-            refusal,
-            window: 0,
-            width: 0,
-            extra: 0,
-            bias: 0,
-        };
-    }
-    let wide = d as u64;
-    let long = w as u64;
-    let bias = raised_rows(long, wide) * wide;
-    BuildPlan {
-        refusal,
+    refuse_build(series, w, d, g, rows, left.min(right))?;
+    let width = u64::from(d);
+    let long = u64::from(w);
+    let bias = raised_rows(long, width) * width;
+    Ok(BuildPlan {
         window: w as usize,
-        width: wide,
+        width,
         extra: bias - RAISE * long,
-        bias: bias,
-    }
+        bias,
+    })
 }

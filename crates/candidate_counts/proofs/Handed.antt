@@ -2,7 +2,7 @@
 use Rattle.meaning_numbers.proofs.Prelude.{◌≡◌, refl, sym, ap, ◌∙◌, Bool, List, [], ◌∷◌, ◌++◌, map, ℕ, ◌≤◌, arith, length, drop, length-append, length-drop, take_at}
 use Rattle.meaning_rows.proofs.{Runs.runs-le, Columns.lefts, Columns.rights, Columns.length-lefts, Columns.length-rights}
 use Rattle.meaning_entries.specs.Buffers.{filled}
-use Rattle.clear.specs.Clear.{cleared_from}
+use Rattle.clear.specs.Clear.{cleared_to, cleared_from}
 use Rattle.candidate_counts.specs.Handed.{Columns, Handed}
 
 lefts-are : (l : List (ℕ × ℕ)) → lefts l ≡ map (λ x. x.0) l
@@ -17,7 +17,7 @@ rights-are (x ∷ l) = rw (rights-are l)
 
 -- a front part kept, and 0 behind it
 behind : (front old now : List ℕ) (k : ℕ) → length front ≡ k → k ≤ length old → now ≡ front ++ drop k old → cleared_from k now ≡ filled 0 front old
-unfolding filled cleared_from
+unfolding filled cleared_to
 behind front old now k e h n =
     let l : length now ≡ length old = ap length n ∙ length-append front _ ∙ rw (e, length-drop k old) (omega arith) in
     rw (l, n, take_at front _ k e, e)

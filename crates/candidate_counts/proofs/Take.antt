@@ -2,7 +2,7 @@
 use Rattle.meaning_numbers.specs.Sum.{bit, count}
 use Rattle.meaning_numbers.proofs.Count.{bit_le, bit-false, count-more, never-count}
 use Rattle.meaning_numbers.proofs.Prelude.{◌≡◌, refl, sym, ap, ◌∙◌, Bool, true, false, not, ◌&&◌, List, ℕ, zero, suc, ◌+◌, ◌-◌, ◌<◌, ◌≤◌, arith, le_step, length, length-set}
-use Rattle.meaning_rows.specs.Runs.{before, take_in, runs}
+use Rattle.meaning_rows.specs.Runs.{before, take_in}
 use Rattle.meaning_rows.proofs.Runs.{runs-more, run_count-more, before_more, runs-le}
 use Rattle.meaning_rows.proofs.Columns.{put_left, put_right, Filling, filling-next}
 use Rattle.candidate_counts.specs.{declared.Found.Found, Take.Took}
@@ -41,22 +41,18 @@ took-none p from (suc n) a left right some none =
 
 -- ---- offsets taken in one by one
 
-abbrev pub handed : ℕ → ℕ → Bool → Found
-handed k found prev = record { runs = k; candidates = found; going = prev }
-
--- after i offsets
-pub record Taking (set : ℕ → Bool) (from i k₀ found₀ : ℕ) (prev₀ : Bool) (k found : ℕ) (prev : Bool) (left₀ right₀ left right : List ℕ) : Type 0 where
+-- of the offsets from `from` on those before j
+pub record Taking (set : ℕ → Bool) (from j : ℕ) (a b : Found) (left₀ right₀ left right : List ℕ) : Type 0 where
   pub long-left : length left ≡ length left₀
   pub long-right : length right ≡ length right₀
-  pub few : k ≤ k₀ + i
-  pub fewer : found ≤ found₀ + i
-  pub begun : bit prev ≤ k
-  pub took : Took set from i (handed k₀ found₀ prev₀) (handed k found prev) left₀ right₀ left right
+  pub few : b.runs + from ≤ a.runs + j
+  pub fewer : b.candidates + from ≤ a.candidates + j
+  pub begun : bit b.going ≤ b.runs
+  pub counted : a.candidates ≡ count set from → b.candidates ≡ count set j
+  pub filling : (l₀ r₀ : List ℕ) → j ≤ length l₀ → j ≤ length r₀ → Filling set l₀ r₀ from a.runs a.going left₀ right₀ → Filling set l₀ r₀ j b.runs b.going left right
 
-pub taking-starts : (set : ℕ → Bool) (from k found : ℕ) (prev : Bool) (left right : List ℕ) → bit prev ≤ k → Taking set from 0 k found prev k found prev left right left right
-taking-starts set from k found prev left right b =
-    let e : from + 0 ≡ from = omega arith in
-    record { long-left = refl; long-right = refl; few = omega arith; fewer = omega arith; begun = b; took = record { counted = λ c. rw e c; filling = λ left₀ right₀ hl hr f. rw e f } }
+pub taking-starts : (set : ℕ → Bool) (from : ℕ) (a : Found) (left right : List ℕ) → bit a.going ≤ a.runs → Taking set from from a a left right left right
+taking-starts set from a left right b = record { long-left = refl; long-right = refl; few = omega arith; fewer = omega arith; begun = b; counted = λ c. c; filling = λ l₀ r₀ hl hr f. f }
 
 length-put-left : (here prev : Bool) (l : List ℕ) (k j : ℕ) → length (put_left here prev l k j) ≡ length l
 unfolding put_left
@@ -75,21 +71,20 @@ begun-next false prev k h = omega arith
 begun-next true true k h = omega arith
 begun-next true false k h = omega arith
 
-module _ {set : ℕ → Bool} {from i k₀ found₀ : ℕ} {prev₀ : Bool} {k found : ℕ} {prev : Bool} {left₀ right₀ left right : List ℕ} where
-  pub taking-next : {here : Bool} {k' : ℕ} {left' right' : List ℕ} → Taking set from i k₀ found₀ prev₀ k found prev left₀ right₀ left right → here ≡ set (from + i)
-      → k' ≡ k + bit (here && not prev) → left' ≡ put_left here prev left k (from + i) → right' ≡ put_right here prev right k (from + i)
-      → Taking set from (i + 1) k₀ found₀ prev₀ k' (found + bit here) here left₀ right₀ left' right'
-  taking-next {here} {k'} {left'} {right'} t is ek el er =
-      let e : from + (i + 1) ≡ (from + i) + 1 = omega arith in
-      record {
-        long-left = ap length el ∙ length-put-left here prev left k _ ∙ t.long-left;
-        long-right = ap length er ∙ length-put-right here prev right k _ ∙ t.long-right;
-        few = omega (arith, t.few, bit_le (here && not prev));
-        fewer = omega (arith, t.fewer, bit_le here);
-        begun = rw ek (begun-next here prev k t.begun);
-        took = record {
-          counted = λ c. rw e (omega (arith, t.took.counted c, count-more set (from + i), ap bit is));
-          filling = λ l₀ r₀ hl hr f.
-              rw e (filling-next (t.took.filling l₀ r₀ (omega arith) (omega arith) f) is {W = from + (i + 1)} (omega arith) (omega (arith, runs-le set (from + (i + 1)))) (omega (arith, runs-le set (from + (i + 1)))) ek el er);
-        };
-      }
+module _ {set : ℕ → Bool} {from j : ℕ} {a b : Found} {left₀ right₀ left right : List ℕ} where
+  pub taking-next : {here : Bool} {k' : ℕ} {left' right' : List ℕ} → Taking set from j a b left₀ right₀ left right → here ≡ set j
+      → k' ≡ b.runs + bit (here && not b.going) → left' ≡ put_left here b.going left b.runs j → right' ≡ put_right here b.going right b.runs j
+      → Taking set from (j + 1) a (record { runs = k'; candidates = b.candidates + bit here; going = here }) left₀ right₀ left' right'
+  taking-next {here} {k'} {left'} {right'} t is ek el er = record {
+    long-left = ap length el ∙ length-put-left here b.going left b.runs _ ∙ t.long-left;
+    long-right = ap length er ∙ length-put-right here b.going right b.runs _ ∙ t.long-right;
+    few = omega (arith, t.few, bit_le (here && not b.going));
+    fewer = omega (arith, t.fewer, bit_le here);
+    begun = rw ek (begun-next here b.going b.runs t.begun);
+    counted = λ c. omega (arith, t.counted c, count-more set j, ap bit is);
+    filling = λ l₀ r₀ hl hr f.
+        filling-next (t.filling l₀ r₀ (omega arith) (omega arith) f) is {W = j + 1} (omega arith) (omega (arith, runs-le set (j + 1))) (omega (arith, runs-le set (j + 1))) ek el er;
+  }
+
+  pub taking-ends : {n : ℕ} → j ≡ from + n → Taking set from j a b left₀ right₀ left right → Took set from n a b left₀ right₀ left right
+  taking-ends e t = let u = rw e at t in record { counted = u.counted; filling = u.filling }

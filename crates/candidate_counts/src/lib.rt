@@ -11,8 +11,7 @@ ghost use Rattle.candidate_counts.specs.Handed.{stood, Columns, Handed};
 ghost use Rattle.candidate_counts.specs.Take.{TakeReady, Took};
 ghost use Rattle.candidate_counts.specs.Raise.{bump, between, reached, Raised};
 
-use clear::{clear_u16, clear_u32};
-use numbers::shorter;
+use clear::clear;
 
 // The count of an offset whose window the part admits: one more where it stands at the part's number.
 pub fn bumped(n: u16, part: u16) -> u16
@@ -28,10 +27,8 @@ pub fn raise_run(scratch: &mut [u16], from: usize, to: usize, part: u16)
     requires part_bound { part < 65535 }
     ensures { Raised part (between from to) scratch.old scratch.new }
 {
-    let mut j = from;
-    while j < to {
+    for j in from..to {
         scratch[j] = bumped(scratch[j], part);
-        j += 1;
     }
 }
 
@@ -39,10 +36,7 @@ pub fn raise_run(scratch: &mut [u16], from: usize, to: usize, part: u16)
 pub fn clip(x: usize, shift: usize, offsets: usize) -> usize
     ensures { result ≡ min (x - shift) offsets }
 {
-    if x < shift {
-        return 0;
-    }
-    shorter(x - shift, offsets)
+    x.saturating_sub(shift).min(offsets)
 }
 
 // The offsets whose windows, `shift` further on, stand in the runs from `from` up to and not with `to` are raised.
@@ -59,19 +53,15 @@ pub fn raise_runs(
     requires { (to ≤ length left.now) × (to ≤ length right.now) × (offsets ≤ length scratch.old) × (part < 65535) }
     ensures { Raised part (reached offsets shift (take (to - from) (drop from (entries left.now right.now)))) scratch.old scratch.new }
 {
-    let mut i = from;
-    while i < to {
-        let l = left[i] as usize;
-        let r = right[i] as usize;
-        let first = clip(l, shift, offsets);
-        let end = clip(r + 1, shift, offsets);
+    for i in from..to {
+        let first = clip(left[i] as usize, shift, offsets);
+        let end = clip(right[i] as usize + 1, shift, offsets);
         raise_run(scratch, first, end, part);
-        i += 1;
     }
 }
 
 // How many runs and how many candidates were handed out, and whether the last run reaches to the last offset looked at, so that it may go on.
-#[derive(Clone, Copy)]
+#[derive(Clone, Copy, Default)]
 pub struct Found {
     pub runs: usize,
     pub candidates: usize,
@@ -104,10 +94,8 @@ pub fn count_at(scratch: &[u16], p: u16, from: usize, n: usize) -> u16
     ensures { result ≡ count (λ k. stood scratch.now p (from + k)) n }
 {
     let mut found: u16 = 0;
-    let mut k: usize = 0;
-    while k < n {
-        found += (scratch[from + k] == p) as u16;
-        k += 1;
+    for &x in &scratch[from..from + n] {
+        found += (x == p) as u16;
     }
     found
 }
@@ -125,23 +113,14 @@ pub fn take_each(
     requires { TakeReady scratch.now from n out left.old right.old }
     ensures { Took (stood scratch.now p) from n out result left.old right.old left.new right.new }
 {
-    let mut k = out.runs;
-    let mut found = out.candidates;
-    let mut prev = out.going;
-    let mut i: usize = 0;
-    while i < n {
-        let j = from + i;
+    let mut now = out;
+    for j in from..from + n {
         let here = scratch[j] == p;
-        k = put(here, prev, j, k, left, right);
-        found += here as usize;
-        prev = here;
-        i += 1;
+        now.runs = put(here, now.going, j, now.runs, left, right);
+        now.candidates += here as usize;
+        now.going = here;
     }
-    Found {
-        runs: k,
-        candidates: found,
-        going: prev,
-    }
+    now
 }
 
 // A block of 64 offsets: where none stands at `p`, it is passed over.
@@ -158,9 +137,8 @@ pub fn take_block(
 {
     if count_at(scratch, p, from, 64) == 0 {
         return Found {
-            runs: out.runs,
-            candidates: out.candidates,
             going: false,
+            ..out
         };
     }
     take_each(scratch, p, from, 64, out, left, right)
@@ -177,11 +155,7 @@ pub fn write_runs(
     requires { (offsets ≤ length scratch.now) × (offsets ≤ length left.old) × (offsets ≤ length right.old) × (offsets ≤ most_values) }
     ensures { Columns (stood scratch.now p) offsets left.old right.old left.new right.new result.runs result.candidates }
 {
-    let mut out = Found {
-        runs: 0,
-        candidates: 0,
-        going: false,
-    };
+    let mut out = Found::default();
     let mut j: usize = 0;
     while 64 <= offsets - j {
         out = take_block(scratch, p, j, out, left, right);
@@ -203,8 +177,8 @@ pub fn collect(
 {
     let found = write_runs(scratch, p, offsets, left, right);
     let runs = found.runs;
-    clear_u32(left, runs);
-    clear_u32(right, runs);
-    clear_u16(scratch, 0);
+    clear(left, runs, 0);
+    clear(right, runs, 0);
+    clear(scratch, 0, 0);
     found
 }

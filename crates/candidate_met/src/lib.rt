@@ -9,7 +9,6 @@ ghost use Rattle.candidate_met.specs.Stored.{raised_end, EndsAt, held_range};
 
 use candidate_ranges::Range;
 use meaning_rows::Row;
-use numbers::{lower, place_before};
 use rows_find::find_row;
 use rows_records::{row_or, zero_row};
 
@@ -24,13 +23,7 @@ pub struct Span {
 pub fn clamp(z: i64) -> i32
     ensures { result ≡ clamp_of z }
 {
-    if z < -4000001 {
-        return -4000001;
-    }
-    if 4000001 < z {
-        return 4000001;
-    }
-    z as i32
+    z.clamp(-4000001, 4000001) as i32
 }
 
 // Where the runs of the first `k` rows end, of the row before row `k`.
@@ -56,13 +49,8 @@ pub fn span_of(n: usize, a: usize, b: usize, first: Row, last: Row, edge: Row, h
     ensures { result ≡ span_of n a b first last edge high }
 {
     let to = end_of(b, last) + reached_runs(edge, high);
-    if a < n {
-        return Span {
-            from: first.first as usize,
-            to,
-        };
-    }
-    Span { from: to, to }
+    let from = if a < n { first.first as usize } else { to };
+    Span { from, to }
 }
 
 // The runs of the rows that a range meets.
@@ -77,7 +65,7 @@ pub fn met_span(rows: &[Row], range: Range) -> Span
     let b = find_row(rows, n, high);
     let none = zero_row();
     let first = row_or(rows, a, none);
-    let last = row_or(rows, place_before(b), none);
+    let last = row_or(rows, b.saturating_sub(1), none);
     let edge = row_or(rows, b, none);
     span_of(n, a, b, first, last, edge, high)
 }
@@ -102,10 +90,8 @@ pub fn range_at(first: &[u32], last: &[u32], i: usize) -> Range
     requires { EndsAt first.now last.now i }
     ensures { result ≡ held_range first.now last.now i }
 {
-    let a = first[i] as u64;
-    let b = last[i] as u64;
     Range {
-        low: lower(a, 4000001) as i64,
-        high: lower(b, 4000001) as i64,
+        low: first[i] as i64 - 4000001,
+        high: last[i] as i64 - 4000001,
     }
 }

@@ -1,7 +1,7 @@
 -- A query that was made ready, within its limits, has the sizes that a frame is made from (`query-in`).
 use Rattle.meaning_numbers.specs.Sum.{Σℕ, square}
 use Rattle.meaning_numbers.proofs.Prelude.{refl, List, ℕ, ◌≤◌, arith, ℤ, length}
-use Rattle.meaning_curves.specs.Curve.{stretch, spread}
+use Rattle.meaning_curves.specs.Curve.{stretch}
 use Rattle.meaning_curves.proofs.{Values.AllIn, Same.spread_same}
 use Rattle.meaning_filter.specs.{declared.Kind.Kind, declared.Limits.Limits}
 use Rattle.numbers.specs.Raised.{raised}

@@ -1,17 +1,12 @@
 -- The sizes of a frame's numbers, within the limits of a query: all products fit 64 bits (`frame-in`).
-use Rattle.meaning_numbers.specs.Root.{root}
+use Rattle.meaning_numbers.specs.{Root.root, Order.minℤ, Order.maxℤ}
 use Rattle.meaning_numbers.proofs.Root.{root_is, le-of-sq-le}
-use Rattle.meaning_numbers.proofs.Prelude.{◌≡◌, Bool, true, false, ℕ, ◌*◌, ◌/◌, ◌≤◌, arith, mul-le-mul, div-le_self, ℤ, pos, ◌+ℤ◌, ◌-ℤ◌, ◌*ℤ◌, w64, to_z, of_z}
+use Rattle.meaning_numbers.proofs.Prelude.{◌≡◌, ◌∙◌, ℕ, ◌*◌, ◌/◌, ◌≤◌, arith, mul-le-mul, div-le_self, ℤ, pos, ◌+ℤ◌, ◌-ℤ◌, ◌*ℤ◌, w64, SFits, to_z, of_z}
 use Rattle.meaning_filter.specs.{declared.Kind.Kind, declared.Kind.TheVariants.Raw, declared.Kind.TheVariants.Normal, declared.Limits.Limits, Range.low_scale, Range.high_scale}
 use Rattle.numbers.specs.Small.{Small}
-use Rattle.numbers.proofs.Small.{small_pos, small-more, small-add, small-sub, small_mul, small-back, arg-back, small-max, small-min}
-use Rattle.distance_envelope.specs.Best.{pick}
+use Rattle.numbers.proofs.Small.{small_pos, small-more, small-add, small-sub, small_mul, small-fits, small-back, arg-back}
 use Rattle.candidate_ranges.specs.{declared.Frame.Frame, Frame.frame_of, Frame.FrameIn, Frame.QueryIn}
 pub use Rattle.distance_envelope.proofs.EnvelopeLaws.{low-in, high-in}
-
-pub small-pick : {n : ℕ} (low : Bool) (x y : ℤ) → Small n x → Small n y → Small n (pick low x y)
-small-pick true = small-min
-small-pick false = small-max
 
 root-le : (y k : ℕ) → y ≤ k * k → root y ≤ k
 root-le y k h = le-of-sq-le (omega (arith, (root_is y).low))
@@ -76,38 +71,40 @@ module _ {m w : ℕ} {l : Limits} {values spread : ℕ} (q : QueryIn m w l value
     some = omega arith;
   }
 
--- ---- a part's numbers
+-- ---- an end of a part's range
 
-pub scaled_small : (x u v : ℤ) → Small 18560256 x → Small 204800001 u → Small 204800001 v
-    → Small 3801140447360256 (x *ℤ u) × Small 3801140447360256 (x *ℤ v)
-scaled_small x u v h k l = (small-more 3801140447360256 (omega arith) (small_mul x u h k), small-more 3801140447360256 (omega arith) (small_mul x v h l))
+-- x is the sum of an envelope moved by the reach; its two multiples, and one of them with more added, are small, so their bits are those of the numbers
+module _ {f : Frame} {sum more : ℤ} (step : ℤ → ℤ → ℤ) (i : FrameIn f) (h : Small 2560000 sum) (k : Small 1310720000000 more) (s : Small 18560256 (step sum f.reach)) where
+  abbrev bits : ℤ → ℤ
+  bits z = to_z w64 (of_z w64 z)
 
--- the sum of an envelope and the reach, passed on
-pub operands : {sum reach : ℤ} → Small 2560000 sum → Small 16000256 reach → Small 4000000000000000 (to_z w64 (of_z w64 sum)) × Small 4000000000000000 (to_z w64 (of_z w64 reach))
-operands {sum} {reach} h k = (arg-back sum (omega arith) (small-more 4000000000000000 (omega arith) h), arg-back reach (omega arith) (small-more 4000000000000000 (omega arith) k))
+  abbrev moved : ℤ
+  moved = bits (step (bits sum) (bits f.reach))
 
--- X or Y is x, as a callee makes it of the machine's bits: what is divided at that end is small, and so the bits of what is told of it are those of the number
-module _ {f : Frame} {sum more x : ℤ} (step : ℤ → ℤ → ℤ) (i : FrameIn f) (h : Small 2560000 sum) (k : Small 1310720000000 more) (s : Small 18560256 (step sum f.reach)) (e : x ≡ step (to_z w64 (of_z w64 sum)) (to_z w64 (of_z w64 f.reach))) where
-  moved : to_z w64 (of_z w64 x) ≡ step sum f.reach
-  moved = rw (e, small-back sum (omega arith) h, small-back _ (omega arith) i.reach) (small-back _ (omega arith) s)
+  moved-is : moved ≡ step sum f.reach
+  moved-is = rw (small-back sum (omega arith) h, small-back f.reach (omega arith) i.reach) (small-back _ (omega arith) s)
 
-  pub asks-dividend : FrameIn f × Small 18560256 (to_z w64 (of_z w64 x)) × Small 1310720000000 (to_z w64 (of_z w64 more))
-  asks-dividend = (i, rw moved s, arg-back more (omega arith) k)
+  multiple : {u : ℤ} → Small 204800001 u → Small 3801140447360256 (moved *ℤ bits u)
+  multiple {u} l = rw (moved-is, small-back u (omega arith) l) (small-more 3801140447360256 (omega arith) (small_mul _ u s l))
 
-  module _ (low : Bool) {n : ℤ} (d : n ≡ pick low (to_z w64 (of_z w64 x) *ℤ f.narrow) (to_z w64 (of_z w64 x) *ℤ f.wide) +ℤ to_z w64 (of_z w64 more)) where
-    abbrev near : ℤ
-    near = step sum f.reach *ℤ f.narrow
+  pub multiple-fits : {u : ℤ} → Small 204800001 u → SFits w64 (moved *ℤ bits u)
+  multiple-fits l = small-fits (omega arith) (multiple l)
 
-    abbrev far : ℤ
-    far = step sum f.reach *ℤ f.wide
+  multiple-is : {u : ℤ} → Small 204800001 u → bits (moved *ℤ bits u) ≡ step sum f.reach *ℤ u
+  multiple-is {u} l = small-back _ (omega arith) (multiple l) ∙ rw (moved-is, small-back u (omega arith) l)
 
-    dividend-is : n ≡ pick low near far +ℤ more
-    dividend-is = rw (d, moved, small-back more (omega arith) k)
+  module _ {pick : ℤ → ℤ → ℤ} (one : (x y : ℤ) → Small 3801140447360256 x → Small 3801140447360256 y → Small 3801140447360256 (pick x y)) {r : ℤ} (e : r ≡ pick (bits (moved *ℤ bits f.narrow)) (bits (moved *ℤ bits f.wide))) where
+    picked-is : r ≡ pick (step sum f.reach *ℤ f.narrow) (step sum f.reach *ℤ f.wide)
+    picked-is = e ∙ rw (multiple-is i.narrow, multiple-is i.wide)
 
-    pub dividend-small : Small 3802451167360256 n
-    dividend-small =
-        let z = scaled_small _ _ _ s i.narrow i.wide in
-        rw dividend-is (small-add _ more (small-pick low near far z.0 z.1) k)
+    picked : Small 3801140447360256 r
+    picked = rw e (one _ _ (arg-back _ (omega arith) (multiple i.narrow)) (arg-back _ (omega arith) (multiple i.wide)))
 
-    pub dividend-back : to_z w64 (of_z w64 n) ≡ pick low near far +ℤ more
-    dividend-back = rw (small-back n (omega arith) dividend-small) dividend-is
+    pub dividend-small : Small 3802451167360256 (bits r +ℤ bits more)
+    dividend-small = small-add _ _ (arg-back r (omega arith) picked) (arg-back more (omega arith) k)
+
+    pub dividend-fits : SFits w64 (bits r +ℤ bits more)
+    dividend-fits = small-fits (omega arith) dividend-small
+
+    pub dividend-is : bits (bits r +ℤ bits more) ≡ pick (step sum f.reach *ℤ f.narrow) (step sum f.reach *ℤ f.wide) +ℤ more
+    dividend-is = small-back _ (omega arith) dividend-small ∙ rw (small-back r (omega arith) picked, small-back more (omega arith) k, picked-is)

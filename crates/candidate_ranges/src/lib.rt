@@ -7,15 +7,12 @@ ghost use Rattle.meaning_curves.specs.Limits.{greatest_value, longest_window, gr
 ghost use Rattle.meaning_curves.proofs.Values.{AllIn};
 ghost use Rattle.meaning_filter.specs.Range.{low_scale, high_scale};
 ghost use Rattle.meaning_filter.specs.declared.Kind.{Kind};
-ghost use Rattle.distance_envelope.specs.Best.{pick};
 ghost use Rattle.numbers.specs.Small.{Small};
 ghost use Rattle.candidate_ranges.specs.Frame.{raw_frame, normal_frame, frame_of, low_end, high_end, range_at, FrameIn, QueryIn};
 
 use distance_query::Query;
 use meaning_filter::{Kind, Limits};
-use numbers::{
-    RAISE, ceil_quotient, floor_quotient, greater_of, lesser_of, minus, plus, root, times,
-};
+use numbers::{RAISE, ceil_quotient, floor_quotient, root};
 use values::window_sum;
 
 // What a query's ranges share: how far a sum may lie outside the envelopes, the two scales, what is added at the lower and at the upper end, and the divisor.
@@ -73,15 +70,15 @@ pub fn normal_frame(m: u64, w: u64, l: Limits, q: Query) -> Frame
     ensures { result ≡ normal_frame q.spread (pos q.values -ℤ pos (greatest_value * m)) m l w }
 {
     let a = l.scale as u64;
-    let total = minus(q.values as i64, (RAISE * m) as i64);
+    let total = q.values as i64 - (RAISE * m) as i64;
     let most = (m * l.shift as u64) as i64;
     let factor = (100 * w) as i64;
     Frame {
         reach: (root(w * l.threshold) + w) as i64,
         narrow: low_scale(q.spread, a),
         wide: high_scale(q.spread, a),
-        fall: times(factor, minus(total, most)),
-        rise: times(factor, plus(total, most)),
+        fall: factor * (total - most),
+        rise: factor * (total + most),
         divisor: 100 * m,
     }
 }
@@ -97,32 +94,14 @@ pub fn frame_of(kind: Kind, m: u64, w: u64, l: Limits, q: Query) -> Frame
     }
 }
 
-// The lesser of two numbers, or the greater.
-pub fn pick_of(low: bool, x: i64, y: i64) -> i64
-    ensures { result ≡ pick low x y }
-{
-    if low {
-        return lesser_of(x, y);
-    }
-    greater_of(x, y)
-}
-
-// What is divided at an end of a range: the lesser or the greater of the two multiples of `x`, with `more` added.
-pub fn dividend(f: Frame, x: i64, low: bool, more: i64) -> i64
-    requires { FrameIn f × Small 18560256 x × Small 1310720000000 more }
-    ensures { result ≡ pick low (x *ℤ f.narrow) (x *ℤ f.wide) +ℤ more }
-{
-    let out = pick_of(low, times(x, f.narrow), times(x, f.wide));
-    plus(out, more)
-}
-
 // The lower end of a part's range, of the sum of the lower envelope.
 pub fn low_end(f: Frame, sum: i64) -> i64
     requires { FrameIn f × Small 2560000 sum }
     ensures { result ≡ low_end f sum }
 {
-    let x = minus(sum, f.reach);
-    ceil_quotient(dividend(f, x, true, f.fall), f.divisor)
+    let x = sum - f.reach;
+    let least = (x * f.narrow).min(x * f.wide);
+    ceil_quotient(least + f.fall, f.divisor)
 }
 
 // The upper end, of the sum of the upper envelope.
@@ -130,8 +109,9 @@ pub fn high_end(f: Frame, sum: i64) -> i64
     requires { FrameIn f × Small 2560000 sum }
     ensures { result ≡ high_end f sum }
 {
-    let y = plus(sum, f.reach);
-    floor_quotient(dividend(f, y, false, f.rise), f.divisor)
+    let y = sum + f.reach;
+    let most = (y * f.narrow).max(y * f.wide);
+    floor_quotient(most + f.rise, f.divisor)
 }
 
 // The range of part `i`, of the envelopes.

@@ -10,13 +10,11 @@ use Rattle.candidate_spans.proofs.Held.{none-held, held_next, held-rest}
 pub record Meeting (rows : List Row) (parts : ℕ) (first last : List ℕ) (i : ℕ) (first' last' : List ℕ) : Type 0 where
   pub met : AllMet rows i first last first' last'
   pub rest : PartsHeld (λ j. get_or first j 0) (λ j. get_or last j 0) i parts first' last'
-  pub inside : i ≤ parts
 
 pub meeting-starts : (rows : List Row) (parts : ℕ) (first last : List ℕ) → Meeting rows parts first last 0 first last
 meeting-starts rows parts first last = record {
   met = record { held = none-held _ _ 0 first last; first-long = refl; last-long = refl };
   rest = record { first-at = λ j l u. refl; last-at = λ j l u. refl };
-  inside = omega arith;
 }
 
 module _ {rows : List Row} {parts : ℕ} {first last : List ℕ} (r : MeetReady rows parts first last) {i : ℕ} {a b : List ℕ} (m : Meeting rows parts first last i a b) where
@@ -54,5 +52,4 @@ module _ {rows : List Row} {parts : ℕ} {first last : List ℕ} (r : MeetReady 
         last-long = s.last-long ∙ m.met.last-long;
       };
       rest = held-rest s m.rest;
-      inside = omega arith;
     }

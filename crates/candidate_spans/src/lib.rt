@@ -38,13 +38,11 @@ pub fn put_ends(
     requires { EndsReady f low.now high.now w parts first.old last.old }
     ensures { PartsHeld (low_ends (part_range f low.now high.now w)) (high_ends (part_range f low.now high.now w)) 0 parts first.new last.new × (length first.new ≡ length first.old) × (length last.new ≡ length last.old) }
 {
-    let mut i: usize = 0;
-    while i < parts {
+    for i in 0..parts {
         let range = part_range(f, low, high, w, i);
         let a = raise_clamped(range.low);
         let b = raise_clamped(range.high);
         store_pair(first, last, i, a, b);
-        i += 1;
     }
 }
 
@@ -100,9 +98,7 @@ pub fn put_span(first: &mut [u32], last: &mut [u32], i: usize, s: Span)
     requires { (i < length first.old) × (i < length last.old) × (s.from ≤ most_values) × (s.to ≤ most_values) }
     ensures { Stored i s.from s.to first.old last.old first.new last.new }
 {
-    let from = s.from as u32;
-    let to = s.to as u32;
-    store_pair(first, last, i, from, to);
+    store_pair(first, last, i, s.from as u32, s.to as u32);
 }
 
 // Each entry replaced by the stretch of runs that its range meets.
@@ -110,12 +106,10 @@ pub fn meet_parts(rows: &[Row], parts: usize, first: &mut [u32], last: &mut [u32
     requires { MeetReady rows.now parts first.old last.old }
     ensures { AllMet rows.now parts first.old last.old first.new last.new }
 {
-    let mut i: usize = 0;
-    while i < parts {
+    for i in 0..parts {
         let range = range_at(first, last, i);
         let span = met_span(rows, range);
         put_span(first, last, i, span);
-        i += 1;
     }
 }
 
@@ -134,14 +128,12 @@ pub fn raise_stretches(
     requires { StretchesReady left.now right.now first.now last.now w parts offsets scratch.old }
     ensures { CountedBy (stretch_hit left.now right.now first.now last.now windows w) offsets parts scratch.new }
 {
-    let mut i: usize = 0;
-    while i < parts {
+    for i in 0..parts {
         let from = first[i] as usize;
         let to = last[i] as usize;
         let shift = i * w;
         let part = i as u16;
         raise_run(scratch, clip(windows, shift, offsets), offsets, part);
         raise_runs(left, right, from, to, scratch, shift, offsets, part);
-        i += 1;
     }
 }

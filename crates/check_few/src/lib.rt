@@ -6,8 +6,6 @@ ghost use Rattle.meaning_curves.specs.Limits.{most_values};
 ghost use Rattle.check_few.specs.Place.{Behind, Inserted};
 ghost use Rattle.check_few.specs.Kept.{Keeps};
 
-use numbers::lesser;
-
 // Behind how many of the first `n` distances, which never fall, a match of distance `d` stands that is later than all others. One comparison where it stands behind all, two where before all.
 pub fn place_of(distances: &[u64], n: usize, d: u64) -> usize
     requires { n ≤ length distances.now }
@@ -22,6 +20,7 @@ pub fn place_of(distances: &[u64], n: usize, d: u64) -> usize
     if d < distances[0] {
         return 0;
     }
+    // A search by hand: std's `partition_point` promises its place only where the distances rise, and `Behind` is promised of any.
     let mut low: usize = 0;
     let mut high = n - 1;
     while low < high {
@@ -40,17 +39,9 @@ pub fn insert_entry(offsets: &mut [u32], distances: &mut [u64], p: usize, n: usi
     requires { (p ≤ n) × (n < length offsets.old) × (n < length distances.old) }
     ensures { Inserted p n j offsets.old offsets.new × Inserted p n d distances.old distances.new }
 {
-    let mut i = n;
-    while p < i {
-        offsets[i] = offsets[i - 1];
-        i -= 1;
-    }
+    offsets.copy_within(p..n, p + 1);
     offsets[p] = j;
-    let mut k = n;
-    while p < k {
-        distances[k] = distances[k - 1];
-        k -= 1;
-    }
+    distances.copy_within(p..n, p + 1);
     distances[p] = d;
 }
 
@@ -59,10 +50,10 @@ pub fn keep_entry(j: usize, d: u64, k: usize, n: usize, offsets: &mut [u32], dis
     requires { (j ≤ most_values) × (k ≤ length offsets.old) × (k ≤ length distances.old) }
     ensures { Keeps k n (j, d) offsets.old distances.old offsets.new distances.new }
 {
-    let held = lesser(n as u64, k as u64) as usize;
+    let held = n.min(k);
     let p = place_of(distances, held, d);
     if p < k {
-        let top = lesser(n as u64, (k - 1) as u64) as usize;
+        let top = n.min(k - 1);
         insert_entry(offsets, distances, p, top, j as u32, d);
     }
 }

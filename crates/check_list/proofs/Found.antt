@@ -1,6 +1,6 @@
 -- Laws of specs/Found.
 use Rattle.meaning_numbers.specs.Place.{keep, numbers_from}
-use Rattle.meaning_numbers.proofs.Prelude.{◌≡◌, refl, sym, Bool, true, false, cond, List, [], ◌∷◌, ◌++◌, map, append-nil, ℕ, zero, suc, ◌+◌, ◌-◌, ◌<◌, ◌≤◌, arith, add-one, ℤ, length, length-map, get_or, take-suc, by-test}
+use Rattle.meaning_numbers.proofs.Prelude.{◌≡◌, Option, None, Some, refl, sym, Bool, true, false, cond, List, [], ◌∷◌, ◌++◌, map, append-nil, ℕ, zero, suc, ◌+◌, ◌-◌, ◌<◌, ◌≤◌, arith, add-one, ℤ, length, length-map, get_or, take-suc, by-test}
 use Rattle.meaning_curves.specs.Curve.{at, stretch}
 use Rattle.meaning_rows.specs.Index.{Index}
 use Rattle.meaning_rows.proofs.Runs.{Apart}
@@ -8,7 +8,7 @@ use Rattle.meaning_filter.specs.Matches.{Question, distance_to, matches_at, list
 use Rattle.meaning_filter.specs.{declared.Kind.Kind, declared.Limits.Limits, declared.Pick.Pick}
 use Rattle.meaning_entries.specs.Demand3.{pairs}
 use Rattle.meaning_entries.proofs.Pairs.{length_pairs, get_d-pairs}
-use Rattle.distance_within.specs.{declared.Match.Match, Answer.answer}
+use Rattle.distance_within.specs.Answer.{answer}
 use Rattle.distance_match.specs.Matched.{matched}
 use Rattle.check_list.specs.{Members.between, Members.members, Found.asked, Found.SumsFor, Found.found, Found.lent_runs, Found.entries_of}
 use Rattle.check_list.proofs.Members.{numbers-end, keep_append, keep-length, length-numbers, members-append, kept-members}
@@ -43,16 +43,16 @@ pub found-one : (pick : Pick) (kind : Kind) (s q : List ℤ) (l : Limits) (j : �
 unfolding found keep matched
 found-one pick kind s q l j = entries-answer (matches_at (asked pick kind s q l) j) j (distance_to kind _ (at q) (length q) l) (listed (asked pick kind s q l)) refl
 
-pub entries-few : (j : ℕ) (m : Match) → length (entries_of j m) ≤ 1
+pub entries-few : (j : ℕ) (m : Option ℕ) → length (entries_of j m) ≤ 1
 unfolding entries_of
-entries-few j (Match.Yes d) = omega arith
-entries-few j Match.No = omega arith
+entries-few j (Some d) = omega arith
+entries-few j None = omega arith
 
-pub no-entries : {m : Match} (j : ℕ) → m ≡ Match.No → entries_of j m ≡ []
+pub no-entries : {m : Option ℕ} (j : ℕ) → m ≡ None → entries_of j m ≡ []
 unfolding entries_of
 no-entries j e = rw e
 
-pub one_entry : {m : Match} {d : ℕ} (j : ℕ) → m ≡ Match.Yes d → entries_of j m ≡ (j, d) ∷ []
+pub one_entry : {m : Option ℕ} {d : ℕ} (j : ℕ) → m ≡ Some d → entries_of j m ≡ (j, d) ∷ []
 unfolding entries_of
 one_entry j e = rw e
 

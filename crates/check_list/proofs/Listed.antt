@@ -5,7 +5,7 @@ use Rattle.meaning_filter.proofs.Closest.{closest-many}
 use Rattle.meaning_entries.specs.{Buffers.filled, Buffers.pair_room, Demand3.pairs}
 use Rattle.meaning_entries.proofs.Pairs.{length_pairs, pairs_set, first-columns}
 use Rattle.clear.specs.Clear.{cleared_from}
-use Rattle.clear.proofs.Clear.{cleared-front}
+use Rattle.clear.proofs.Cleared.{cleared-front}
 use Rattle.check_few.specs.Kept.{Held, Keeps}
 use Rattle.check_list.specs.Listed.{Noted, Notes, end_of, ListFilled}
 

@@ -1,12 +1,11 @@
 -- The turns of the loops over the offsets of a run (`RunSoFar`) and over the runs (`RunsSoFar`): what is known as each starts, moves on and ends.
 use Rattle.meaning_numbers.specs.Place.{numbers_from}
-use Rattle.meaning_numbers.proofs.Prelude.{◌≡◌, ◌∙◌, List, [], ◌∷◌, ℕ, zero, suc, ◌+◌, ◌-◌, ◌<◌, ◌≤◌, arith, ℤ, length, get_or, length-take, get_or-take}
+use Rattle.meaning_numbers.proofs.Prelude.{◌≡◌, Option, ◌∙◌, List, [], ◌∷◌, ℕ, zero, suc, ◌+◌, ◌-◌, ◌<◌, ◌≤◌, arith, ℤ, length, get_or, length-take, get_or-take}
 use Rattle.meaning_curves.specs.Curve.{at, stretch}
 use Rattle.meaning_rows.proofs.Runs.{Apart}
 use Rattle.meaning_filter.specs.{declared.Kind.Kind, declared.Limits.Limits, declared.Pick.Pick, Matches.Question}
 use Rattle.meaning_entries.specs.Demand3.{pairs}
 use Rattle.meaning_entries.proofs.Pairs.{length_pairs, get_d-pairs}
-use Rattle.distance_within.specs.declared.Match.{Match}
 use Rattle.distance_match.specs.Matched.{matched}
 use Rattle.check_list.specs.{Members.members, Listed.Notes, Found.asked, Found.SumsFor, Found.RunsLent, Found.lent_runs, Found.found, Found.entries_of}
 use Rattle.check_list.proofs.Listed.{notes-none, notes-on}
@@ -30,7 +29,7 @@ module _ {pick : Pick} {kind : Kind} {s q : List ℤ} {l : Limits} {from last k 
     so_far = rw (run_none _ from) (notes-none pick k offsets₀ distances₀);
   }
 
-  pub run-next : {offsets distances offsets' distances' : List ℕ} {p w p' w' n n' j : ℕ} {m : Match} → j ≤ last → RunSoFar pick kind s q l from last k offsets₀ distances₀ offsets distances p w n j
+  pub run-next : {offsets distances offsets' distances' : List ℕ} {p w p' w' n n' j : ℕ} {m : Option ℕ} → j ≤ last → RunSoFar pick kind s q l from last k offsets₀ distances₀ offsets distances p w n j
       → m ≡ matched kind (stretch s j) (at q) (length q) l → Notes pick (entries_of j m) n n' offsets distances offsets' distances' → SumsFor kind s (j + 1) (length q) p' w'
       → RunSoFar pick kind s q l from last k offsets₀ distances₀ offsets' distances' p' w' n' (j + 1)
   run-next {j = j} {m} h r e g t = record {

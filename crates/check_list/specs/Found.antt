@@ -1,5 +1,6 @@
 -- The matches among some offsets, as entries of the list (`found`): those of the candidates' runs are the list that a search means. What checking asks for (`Prepared`), and the sums that slide (`SumsFor`).
-use Rattle.std.specs.Prelude.{ℕ, ◌+◌, ◌<◌, ◌≤◌, ℤ, length, take, List, [], ◌∷◌, map, ◌≡◌}
+use Rattle.std.specs.Prelude.{ℕ, ◌+◌, ◌<◌, ◌≤◌, ℤ, length, take, List, [], ◌∷◌, map, None, Some, ◌≡◌}
+use Rattle.std.specs.declared.option.Option.{Option}
 use Rattle.meaning_numbers.specs.Place.{keep}
 use Rattle.meaning_curves.proofs.Values.{AllIn}
 use Rattle.meaning_rows.proofs.Runs.{Apart}
@@ -7,7 +8,6 @@ use Rattle.meaning_filter.specs.{declared.Kind.Kind, declared.Limits.Limits, dec
 use Rattle.meaning_entries.specs.Demand3.{pairs}
 use Rattle.values.specs.Sums.{AreSums}
 use Rattle.distance_query.specs.Ready.{Ready}
-use Rattle.distance_within.specs.declared.Match.{Match}
 
 -- what is looked for
 abbrev pub asked : Pick → Kind → List ℤ → List ℤ → Limits → Question
@@ -42,6 +42,6 @@ pub record RunsLent (n : ℕ) (left right : List ℕ) (runs : ℕ) : Type 0 wher
   pub apart : Apart n 0 (lent_runs left right runs)
 
 -- what a match test answers at offset j, as entries of the list
-unfoldable pub entries_of : ℕ → Match → List (ℕ × ℕ)
-entries_of j (Match.Yes d) = (j, d) ∷ []
-entries_of j Match.No = []
+unfoldable pub entries_of : ℕ → Option ℕ → List (ℕ × ℕ)
+entries_of j (Some d) = (j, d) ∷ []
+entries_of j None = []

@@ -15,13 +15,11 @@ ghost use Rattle.check_list.specs.Listed.{Notes, ListFilled, end_of};
 ghost use Rattle.check_list.specs.Found.{asked, Prepared, RunsLent, SumsFor, found, lent_runs, entries_of};
 
 use check_few::keep_entry;
-use clear::{clear_u32, clear_u64};
+use clear::clear;
 use distance_match::match_at;
 use distance_query::Query;
-use distance_within::Match;
 use meaning_curves::LONGEST_QUERY;
 use meaning_filter::{Kind, Limits, Pick};
-use numbers::lesser;
 use values::{Sums, next_sums, sums_at};
 
 // The sums of the stretch at a run's start.
@@ -61,11 +59,9 @@ pub fn put_entry(j: usize, distance: u64, k: usize, offsets: &mut [u32], distanc
     requires { j ≤ most_values }
     ensures { Notes Pick.All ((j, distance) ∷ []) k (k + 1) offsets.old distances.old offsets.new distances.new }
 {
-    if k < offsets.len() {
-        if k < distances.len() {
-            offsets[k] = j as u32;
-            distances[k] = distance;
-        }
+    if k < offsets.len() && k < distances.len() {
+        offsets[k] = j as u32;
+        distances[k] = distance;
     }
 }
 
@@ -92,7 +88,7 @@ pub fn note_entry(
 // What the match test says of offset `j`, noted in the list after `k` matches; how many there are then.
 pub fn note_match(
     pick: Pick,
-    tested: Match,
+    tested: Option<u64>,
     j: usize,
     k: usize,
     offsets: &mut [u32],
@@ -102,8 +98,8 @@ pub fn note_match(
     ensures { Notes pick (entries_of j tested) k result offsets.old distances.old offsets.new distances.new }
 {
     match tested {
-        Match::No => k,
-        Match::Yes { distance } => {
+        None => k,
+        Some(distance) => {
             note_entry(pick, j, distance, k, offsets, distances);
             k + 1
         }
@@ -138,12 +134,10 @@ pub fn check_run(
     let m = q.len();
     let mut t = first_sums(kind, s, from, m);
     let mut n = k;
-    let mut j = from;
-    while j <= last {
+    for j in from..=last {
         let tested = match_at(kind, s, j, t, q, query, curve, low, high, l, room, row);
         n = note_match(pick, tested, j, n, offsets, distances);
         t = slide_sums(kind, s, j, m, t);
-        j += 1;
     }
     n
 }
@@ -174,15 +168,13 @@ pub fn check_each(
     ensures { Notes pick (found (asked pick kind s.now q.now l) (members (lent_runs left.now right.now runs))) 0 result offsets.old distances.old offsets.new distances.new }
 {
     let mut n: usize = 0;
-    let mut i: usize = 0;
-    while i < runs {
+    for i in 0..runs {
         let from = left[i] as usize;
         let last = right[i] as usize;
         n = check_run(
             pick, kind, s, q, query, curve, low, high, l, from, last, room, row, offsets,
             distances, n,
         );
-        i += 1;
     }
     n
 }
@@ -191,11 +183,11 @@ pub fn check_each(
 pub fn list_end(pick: Pick, n: usize, offsets: usize, distances: usize) -> usize
     ensures { result ≡ end_of pick n (min offsets distances) }
 {
-    let room = lesser(offsets as u64, distances as u64);
-    let all = lesser(n as u64, room) as usize;
+    let room = offsets.min(distances);
+    let all = room.min(n);
     match pick {
         Pick::All => all,
-        Pick::Closest { count } => lesser(count as u64, all as u64) as usize,
+        Pick::Closest { count } => all.min(count as usize),
     }
 }
 
@@ -243,7 +235,7 @@ pub fn check_runs(
         distances,
     );
     let end = list_end(pick, n, offsets.len(), distances.len());
-    clear_u32(offsets, end);
-    clear_u64(distances, end);
+    clear(offsets, end, 0);
+    clear(distances, end, 0);
     n
 }

@@ -5,16 +5,15 @@
 ghost use Rattle.std.specs.Prelude.{◌≤◌};
 ghost use Rattle.meaning_curves.specs.Limits.{most_program_values, longest_query};
 
+use entry_build::build;
+use entry_search::closest;
 use meaning_curves::{LONGEST_QUERY, MOST_PROGRAM_VALUES};
-use meaning_entries::{Built, Found};
+use meaning_entries::{Found, Refusal};
 use meaning_filter::{Ask, Pick};
 use meaning_rows::{Head, Row};
-use program_table::closest_table;
+use std::io::Result as IoResult;
 use try_c_match::kind_of;
-use try_print::{
-    build_prices, get_limits, get_offset, print_at, print_count, print_refused, print_size,
-    print_too_much, read_input, rows_of,
-};
+use try_print::{Count, get_limits, get_offset, print_refused, print_too_much, read_input};
 use try_vectors::{get, get_small, get_values, plus};
 
 // How many matches the lent list holds.
@@ -22,71 +21,51 @@ const ROOM: usize = 64;
 
 // ---- words
 
-// How many of the matches are listed, where that is all of them.
-fn print_all(matches: usize) {
-    if matches == 0 {
-        io::write_all(1, b"no matches");
-        return;
-    }
-    if matches == 1 {
-        io::write_all(1, b"the only match");
-        return;
-    }
-    io::write_all(1, b"all ");
-    print_size(matches);
-    io::write_all(1, b" matches");
-}
-
-// The head of the list. How many matches it has.
-fn print_head(count: usize, candidates: usize, matches: usize) -> usize {
-    let mut listed = matches;
+// The head of the list: how many of the matches are listed, among how many candidates.
+fn print_head(rt: &impl Print, count: usize, candidates: usize, matches: usize) -> IoResult<()> {
     if count < matches {
-        listed = count;
-        io::write_all(1, b"the closest ");
-        print_size(count);
-        io::write_all(1, b" of ");
-        print_size(matches);
-        io::write_all(1, b" matches");
+        print!(rt; "the closest {count} of {matches} matches")?;
     } else {
-        print_all(matches);
+        match matches {
+            0 => print!(rt; "no matches")?,
+            1 => print!(rt; "the only match")?,
+            _ => print!(rt; "all {matches} matches")?,
+        }
     }
-    io::write_all(1, b", among ");
-    print_count(candidates, b" candidate\n", b" candidates\n");
-    listed
+    let among = Count {
+        n: candidates,
+        one: "candidate",
+        many: "candidates",
+    };
+    println!(rt; ", among {among}")
 }
 
-fn print_match(offset: usize, distance: u64) {
-    print_at(offset, distance);
-    io::write_all(1, b"\n");
-}
-
-fn print_list(offsets: &[u32], distances: &[u64], listed: usize) {
-    let mut k: usize = 0;
-    while k < listed {
-        print_match(get_offset(offsets, k), get(distances, k));
-        k += 1;
+fn print_list(rt: &impl Print, offsets: &[u32], distances: &[u64], listed: usize) -> IoResult<()> {
+    for k in 0..listed {
+        println!(rt; "  at {}, distance {}", get_offset(offsets, k), get(distances, k))?;
     }
+    Ok(())
 }
 
-fn print_found(count: u32, answer: Found, offsets: &[u32], distances: &[u64]) {
+fn print_found(
+    rt: &impl Print,
+    count: u32,
+    answer: Result<Found, Refusal>,
+    offsets: &[u32],
+    distances: &[u64],
+) -> IoResult<()> {
     match answer {
-        Found::Few {
+        Ok(Found::Few {
             candidates,
             matches,
-        } => {
-            let listed = print_head(count as usize, candidates, matches);
-            print_list(offsets, distances, listed);
+        }) => {
+            let count = count as usize;
+            print_head(rt, count, candidates, matches)?;
+            print_list(rt, offsets, distances, count.min(matches))
         }
-        Found::Refused { number, place } => print_refused(number, place),
+        Err(r) => print_refused(rt, r),
         // Not answered where the closest few are asked for.
-        Found::All {
-            candidates: _,
-            matches: _,
-        } => {}
-        Found::Full {
-            candidates: _,
-            matches: _,
-        } => {}
+        _ => Ok(()),
     }
 }
 
@@ -94,27 +73,24 @@ fn print_found(count: u32, answer: Found, offsets: &[u32], distances: &[u64]) {
 
 // The search through the index, and its list.
 fn search_closest(
+    rt: &impl Print,
     ask: Ask,
     count: u32,
     series: &[i32],
     query: &[i32],
     head: Head,
-    table: [Row; MOST_PROGRAM_VALUES],
-    rows: usize,
+    rows: &[Row],
     left: &[u32],
     right: &[u32],
-)
-    requires { rows ≤ most_program_values }
-{
+) -> IoResult<()> {
     let mut first = [0u32; MOST_PROGRAM_VALUES];
     let mut last = [0u32; MOST_PROGRAM_VALUES];
     let mut scratch = [0u16; MOST_PROGRAM_VALUES];
     let mut offsets = [0u32; ROOM];
     let mut distances = [0u64; ROOM];
-    let answer = closest_table(
+    let answer = closest(
         series,
         head,
-        table,
         rows,
         left,
         right,
@@ -127,46 +103,61 @@ fn search_closest(
         &mut offsets,
         &mut distances,
     );
-    print_found(count, answer, &offsets, &distances);
+    print_found(rt, count, answer, &offsets, &distances)
 }
 
 // The index and the search.
-fn desk(ask: Ask, count: u32, window: u32, width: u32, merge: u32, series: &[i32], query: &[i32]) {
+fn desk(
+    rt: &impl Print,
+    ask: Ask,
+    count: u32,
+    window: u32,
+    width: u32,
+    merge: u32,
+    series: &[i32],
+    query: &[i32],
+) -> IoResult<()> {
+    let mut rows = [Row {
+        low: 0,
+        up: 0,
+        first: 0,
+        runs: 0,
+    }; MOST_PROGRAM_VALUES];
     let mut left = [0u32; MOST_PROGRAM_VALUES];
     let mut right = [0u32; MOST_PROGRAM_VALUES];
-    let made = build_prices(series, window, width, merge, &mut left, &mut right);
-    let table = made.rows;
-    let answer = made.answer;
-    match answer {
-        Built::Refused { number, place } => print_refused(number, place),
-        Built::Index {
-            head,
-            rows,
-            runs: _,
-        } => search_closest(
-            ask,
-            count,
-            series,
-            query,
-            head,
-            table,
-            rows_of(rows),
-            &left,
-            &right,
-        ),
+    let made = build(
+        series, window, width, merge, &mut rows, &mut left, &mut right,
+    );
+    match made {
+        Err(r) => print_refused(rt, r),
+        Ok(index) => {
+            let n = index.rows.min(MOST_PROGRAM_VALUES);
+            search_closest(
+                rt,
+                ask,
+                count,
+                series,
+                query,
+                index.head,
+                &rows[..n],
+                &left,
+                &right,
+            )
+        }
     }
 }
 
 // What is asked for, from the place `at` of the query's kind on.
 fn ask_of(nums: &[u64], at: usize) -> Ask {
-    let kind = kind_of(get_small(nums, at));
-    let limits = get_limits(nums, plus(at, 1));
-    let pick = Pick::All;
-    Ask { kind, limits, pick }
+    Ask {
+        kind: kind_of(get_small(nums, at)),
+        limits: get_limits(nums, plus(at, 1)),
+        pick: Pick::All,
+    }
 }
 
 // The numbers of the input, of which `n` are prices and `m` values of the query.
-fn run(nums: &[u64], n: usize, m: usize)
+fn run(rt: &impl Print, nums: &[u64], n: usize, m: usize) -> IoResult<()>
     requires { (n ≤ most_program_values) × (m ≤ longest_query) }
 {
     let at = plus(4, n);
@@ -180,15 +171,21 @@ fn run(nums: &[u64], n: usize, m: usize)
     let window = get_small(nums, 0);
     let width = get_small(nums, 1);
     let merge = get_small(nums, 2);
-    desk(ask, count, window, width, merge, &series[..n], &query[..m]);
+    desk(
+        rt,
+        ask,
+        count,
+        window,
+        width,
+        merge,
+        &series[..n],
+        &query[..m],
+    )
 }
 
-fn main() {
-    let x = read_input(3);
-    if x.held {
-        let numbers = x.numbers;
-        run(&numbers, x.prices, x.values);
-    } else {
-        print_too_much(b"not searched");
+fn main(rt: HostRuntime) -> IoResult<()> {
+    match read_input(3) {
+        Some(x) => run(&rt, &x.numbers, x.prices, x.values),
+        None => print_too_much(&rt, "not searched"),
     }
 }

@@ -16,13 +16,8 @@ pub fn outside(low: i32, high: i32, x: i32) -> u32
     requires in_limits_3 { InLimits x }
     ensures { result ≡ excess low high x }
 {
-    let a = x - high;
-    let b = low - x;
-    let mut d = a;
-    if a < b {
-        d = b;
-    }
-    if d < 0 { 0 } else { d as u32 }
+    let d = (x - high).max(low - x);
+    d.max(0) as u32
 }
 
 // The square of that.
@@ -45,9 +40,7 @@ pub fn excess_at(s: &[i32], from: usize, low: &[i32], high: &[i32], j: usize) ->
     ensures { result ≡ apart (stretch s.now from) (at low.now) (at high.now) j }
 {
     let x = s[from + j];
-    let l = low[j];
-    let h = high[j];
-    outside_squared(l, h, x)
+    outside_squared(low[j], high[j], x)
 }
 
 // The sum of the squares of what `n` values, from place `p` on of the stretch of `s` that starts at `from`, lie outside the envelope.
@@ -60,10 +53,8 @@ pub fn envelope_part(s: &[i32], from: usize, low: &[i32], high: &[i32], p: usize
     ensures { result ≡ Σℕ n (λ k. apart (stretch s.now from) (at low.now) (at high.now) (p + k)) }
 {
     let mut sum: u64 = 0;
-    let mut k: usize = 0;
-    while k < n {
+    for k in 0..n {
         sum += excess_at(s, from, low, high, p + k);
-        k += 1;
     }
     sum
 }
@@ -79,6 +70,7 @@ pub fn envelope_bound(s: &[i32], from: usize, low: &[i32], high: &[i32], limit: 
     let m = low.len();
     let mut total: u64 = 0;
     let mut i: usize = 0;
+    // Not a `for` over blocks: that tells LLVM that fewer than 16 values are left in the end, and it does not vectorise so few.
     while 16 <= m - i {
         total += envelope_part(s, from, low, high, i, 16);
         if limit < total {

@@ -2,9 +2,8 @@
 use borrow.Author.Count.{below_more}
 use Rattle.meaning_numbers.proofs.Prelude.{◌≡◌, ◌∙◌, refl, Bool, List, ℕ, suc, ◌+◌, ◌-◌, ◌<◌, ◌≤◌, min, arith, dec_le, ℤ, pos, length, set, length-set, get_or-set_same, get_or-set_other}
 use Rattle.meaning_curves.specs.Curve.{at}
-use Rattle.values.specs.Copy.{Copied}
 use Rattle.distance_envelope.specs.{Best.pick, Best.edge, Envelope.IsEnvelope, Pass.PassAhead, Pass.PassBack, Pass.Ahead, Pass.Back}
-use Rattle.distance_envelope.proofs.Best.{best-one, best-same, best_of, ahead_more, ahead-kept, back_more, back-kept, best-through, best-edge}
+use Rattle.distance_envelope.proofs.Best.{best-one, best-same, ahead_more, ahead-kept, back_more, back-kept, best-through, best-edge}
 
 -- ---- passes that add up to n
 
@@ -32,14 +31,12 @@ back-pass {t} {n} {d} {old} {mid} a p far = record {
   ];
 }
 
--- ---- a copy, then ahead, then back
+-- ---- ahead, then back
 
-pub passes-edge : {t : Bool} {b : ℕ} {q copy mid new : List ℤ} → Copied q copy → Ahead t b copy mid → Back t b mid new → IsEnvelope (edge t (at q) (length q) b) (length q) new
-passes-edge {t} {b} {q} {copy} {mid} c a k = record {
-  long = k.long ∙ a.long ∙ c.long;
-  at = λ i h.
-      best-edge t (at q) _ b i h
-      (best-through _ b i (λ j l. best_of c.at (rw c.long at (a.best j (omega arith))) (omega arith)) h (k.best i (omega arith)));
+pub passes-edge : {t : Bool} {b : ℕ} {q mid new : List ℤ} → Ahead t b q mid → Back t b mid new → IsEnvelope (edge t (at q) (length q) b) (length q) new
+passes-edge {t} {b} {q} {mid} a k = record {
+  long = k.long ∙ a.long;
+  at = λ i h. best-edge t (at q) _ b i h (best-through _ b i a.best h (k.best i (omega arith)));
 }
 
 -- ---- a pass that is half made

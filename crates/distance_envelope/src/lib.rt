@@ -8,17 +8,11 @@ ghost use Rattle.distance_envelope.specs.Best.{pick, edge};
 ghost use Rattle.distance_envelope.specs.Pass.{PassAhead, PassBack, Ahead, Back};
 ghost use Rattle.distance_envelope.specs.Envelope.{IsEnvelope};
 
-use numbers::{greater_value, lesser_value, monus};
-use values::copy_values;
-
 // The lesser of two values, or the greater.
 pub fn pick(low: bool, x: i32, y: i32) -> i32
     ensures { result ≡ pick low x y }
 {
-    if low {
-        return lesser_value(x, y);
-    }
-    greater_value(x, y)
+    if low { x.min(y) } else { x.max(y) }
 }
 
 // By how much a window that reaches `n` places grows on its way to `b`: by its length, or by what is left.
@@ -26,21 +20,15 @@ pub fn growth(n: usize, b: usize) -> usize
     requires { n < b }
     ensures { result ≡ min (n + 1) (b - n) }
 {
-    if n + 1 < b - n { n + 1 } else { b - n }
+    (n + 1).min(b - n)
 }
 
 // Each value becomes the pick of itself and the value `d` places ahead, where there is one.
 pub fn pass_ahead(out: &mut [i32], d: usize, low: bool)
     ensures { PassAhead low d out.old out.new }
 {
-    let m = out.len();
-    let end = monus(m, d);
-    let mut i: usize = 0;
-    while i < end {
-        let x = out[i];
-        let y = out[i + d];
-        out[i] = pick(low, x, y);
-        i += 1;
+    for i in 0..out.len().saturating_sub(d) {
+        out[i] = pick(low, out[i], out[i + d]);
     }
 }
 
@@ -48,12 +36,8 @@ pub fn pass_ahead(out: &mut [i32], d: usize, low: bool)
 pub fn pass_back(out: &mut [i32], d: usize, low: bool)
     ensures { PassBack low d out.old out.new }
 {
-    let mut i = out.len();
-    while d < i {
-        i -= 1;
-        let x = out[i - d];
-        let y = out[i];
-        out[i] = pick(low, x, y);
+    for i in (d..out.len()).rev() {
+        out[i] = pick(low, out[i - d], out[i]);
     }
 }
 
@@ -86,7 +70,7 @@ pub fn envelope(q: &[i32], b: usize, low: bool, out: &mut [i32])
     requires { length out.old ≡ length q.now }
     ensures { IsEnvelope (edge low (at q.now) (length q.now) b) (length q.now) out.new }
 {
-    copy_values(q, out);
+    out.copy_from_slice(q);
     reach_ahead(out, b, low);
     reach_back(out, b, low);
 }

@@ -1,9 +1,9 @@
 -- Laws of specs/Alike.
-use Rattle.meaning_numbers.proofs.Prelude.{◌≡◌, refl, sym, subst, Bool, true, false, not, ⊎_elim, ℕ, zero, suc, ◌*◌, ◌<◌, ◌≤◌, arith, T, eqb, eqb·suc-zero, ℤ, pos, ◌-ℤ◌, nat_abs, is_true, is_false, decided}
+use Rattle.meaning_numbers.proofs.Prelude.{◌≡◌, refl, sym, subst, Bool, true, false, not, ⊎_elim, None, ℕ, zero, suc, ◌*◌, ◌<◌, ◌≤◌, arith, T, eqb, eqb·suc-zero, ℤ, pos, ◌-ℤ◌, nat_abs, is_true, is_false, decided}
 use Rattle.meaning_curves.specs.{Curve.total, Curve.spread, Match.normal_distance, Match.normal_match}
 use Rattle.meaning_curves.proofs.Match.{normal-yes}
 use Rattle.meaning_filter.specs.{declared.Kind.TheVariants.Normal, declared.Limits.Limits, Matches.matches, Matches.distance_to}
-use Rattle.distance_within.specs.{declared.Match.TheVariants.No, Answer.nearness}
+use Rattle.distance_within.specs.Answer.{nearness}
 use Rattle.distance_within.proofs.Answer.{leb_yes}
 use Rattle.distance_match.specs.{Matched.matched, Alike.Alike, Alike.Says}
 
@@ -33,7 +33,7 @@ module _ (s q : ℕ → ℤ) (m : ℕ) (l : Limits) {A p B r : ℕ} (A-is : A �
       let near : nat_abs (total s m -ℤ total q m) ≤ m * l.shift = rw (sym Shift-is) h.shift in
       rw (is_true (not _) (above_zero _ some), leb_yes up, leb_yes down, leb_yes near) refl
 
-  pub unlike-matched : (Alike A p B r m l.scale l.shift → ⊥) → No ≡ matched Normal s q m l
+  pub unlike-matched : (Alike A p B r m l.scale l.shift → ⊥) → None ≡ matched Normal s q m l
   unfolding matched matches
   unlike-matched f = ⊎_elim
       (λ t. let y = normal-yes s q m _ _ _ _ t in

@@ -12,9 +12,8 @@ ghost use Rattle.distance_match.specs.Matched.{matched};
 ghost use Rattle.distance_match.specs.Alike.{Alike, Says};
 
 use distance_query::Query;
-use distance_within::{Match, compare, compare_normal};
+use distance_within::{compare, compare_normal};
 use meaning_filter::{Kind, Limits};
-use numbers::difference;
 use values::{Sums, spread_of};
 
 // Whether a stretch of spread `a` and raised sum `p` is not flat, and scale and shift are within their limits.
@@ -35,7 +34,7 @@ pub fn alike(a: u64, p: u64, query: Query, m: usize, l: Limits) -> bool
     if square * a < 100 * c {
         return false;
     }
-    let gap = difference(p, query.values);
+    let gap = p.abs_diff(query.values);
     gap <= (m as u64) * (l.shift as u64)
 }
 
@@ -52,7 +51,7 @@ pub fn match_normal(
     l: Limits,
     room: &mut [i32],
     row: &mut [u64],
-) -> Match
+) -> Option<u64>
     requires q_in_bounds { from + length q.now ≤ length s.now }
     requires q_nonzero { (0 < length q.now) × (length q.now ≤ longest_query) }
     requires room_fits { (length room.old ≡ length q.now) × (length q.now < length row.old) }
@@ -63,13 +62,11 @@ pub fn match_normal(
 {
     let m = q.len();
     let a = spread_of(s, from, m, t);
-    let p = t.values;
-    if !alike(a, p, query, m, l) {
-        return Match::No;
+    if !alike(a, t.values, query, m, l) {
+        return None;
     }
     let b = l.band as usize;
-    let threshold = l.threshold;
-    compare_normal(s, from, t, a, curve, low, high, b, threshold, room, row)
+    compare_normal(s, from, t, a, curve, low, high, b, l.threshold, room, row)
 }
 
 // The match test: whether the stretch of `s` that starts at `from` matches the query `q`, and its distance. `t` are the stretch's sums, which only a normalised query asks for; `query`, `curve`, `low` and `high` are made of the query once.
@@ -86,7 +83,7 @@ pub fn match_at(
     l: Limits,
     room: &mut [i32],
     row: &mut [u64],
-) -> Match
+) -> Option<u64>
     requires q_in_bounds { from + length q.now ≤ length s.now }
     requires q_nonzero { (0 < length q.now) × (length q.now ≤ longest_query) }
     requires room_fits { (length room.old ≡ length q.now) × (length q.now < length row.old) }
@@ -98,8 +95,7 @@ pub fn match_at(
     match kind {
         Kind::Raw => {
             let b = l.band as usize;
-            let threshold = l.threshold;
-            compare(s, from, curve, low, high, b, threshold, row)
+            compare(s, from, curve, low, high, b, l.threshold, row)
         }
         Kind::Normal => match_normal(s, from, t, q, query, curve, low, high, l, room, row),
     }

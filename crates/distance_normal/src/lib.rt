@@ -41,14 +41,8 @@ pub fn normal_of(x: u64, p: u64, a: u64, f: u64) -> i32
     requires factor { IsFactor a f }
     ensures { result ≡ normal a (pos x -ℤ pos p) }
 {
-    let mut d = p;
-    if x < p {
-        d = p - x;
-    } else {
-        d = x - p;
-    }
-    let t = cut_of(d, a, f) as i32;
-    if x < p { 0 - t } else { t }
+    let t = cut_of(x.abs_diff(p), a, f) as i32;
+    if x < p { -t } else { t }
 }
 
 // The `n` normalised values from place `p` on of the stretch of `out.len()` values that starts at `from`, of its sums, its spread and its factor.
@@ -69,13 +63,10 @@ pub fn normalise_part(
 {
     let m = out.len();
     let sum = t.values;
-    let mut k: usize = 0;
-    while k < n {
+    for k in 0..n {
         let j = p + k;
-        let x = s[from + j];
-        let v = (m as u64) * raise(x);
+        let v = (m as u64) * raise(s[from + j]);
         out[j] = normal_of(v, sum, a, f);
-        k += 1;
     }
 }
 
@@ -85,6 +76,5 @@ pub fn normalise(s: &[i32], from: usize, t: Sums, a: u64, out: &mut [i32])
     ensures { Normalised (stretch s.now from) (length out.old) out.new }
 {
     let m = out.len();
-    let f = factor(a);
-    normalise_part(s, from, t, a, f, 0, m, out);
+    normalise_part(s, from, t, a, factor(a), 0, m, out);
 }

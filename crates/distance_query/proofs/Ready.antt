@@ -1,9 +1,8 @@
 -- Laws of specs/Ready.
-use Rattle.meaning_numbers.proofs.Prelude.{◌≡◌, refl, sym, ◌∙◌, List, ℕ, ◌<◌, ◌≤◌, zero-add, arith, ℤ, length}
+use Rattle.meaning_numbers.proofs.Prelude.{◌≡◌, refl, sym, ◌∙◌, List, ℕ, ◌<◌, ◌≤◌, zero-add, ℤ, length}
 use Rattle.meaning_curves.specs.Curve.{at, stretch, spread}
-use Rattle.meaning_curves.proofs.{Values.AllIn, Values.all_in, Same.Same, Same.normalised-same}
+use Rattle.meaning_curves.proofs.{Values.AllIn, Same.Same, Same.normalised-same}
 use Rattle.meaning_filter.specs.declared.Kind.TheVariants.{Raw, Normal}
-use Rattle.values.specs.Copy.{Copied}
 use Rattle.distance_normal.specs.Stretch.{Normalised}
 use Rattle.distance_normal.proofs.Stretch.{normalised-in}
 use Rattle.distance_query.specs.Ready.{IsCurve}
@@ -16,8 +15,8 @@ from_start q m = record { at = λ k l. rw zero-add refl }
 
 -- ---- a curve of each kind
 
-pub raw-curve : {q out : List ℤ} → AllIn q → Copied q out → IsCurve Raw q out
-raw-curve {q} {out} h c = record { long = c.long; same = record { at = c.at }; inside = all_in out (λ k l. rw (c.at k (omega (arith, c.long))) (h.at k)) }
+pub raw-curve : {q out : List ℤ} → AllIn q → out ≡ q → IsCurve Raw q out
+raw-curve h e = rw e (record { long = refl; same = record { at = λ k l. refl }; inside = h })
 
 pub normal-curve : {q out : List ℤ} {a : ℕ} → length q ≤ 1024 → a ≡ spread (stretch q 0) (length q) → 0 < a → Normalised (stretch q 0) (length q) out → IsCurve Normal q out
 normal-curve {q} {out} short e some n = record {

@@ -21,13 +21,9 @@ pub fn part(s: &[i32], from: usize, q: &[i32], p: usize, n: usize) -> u64
     ensures { result ≡ Σℕ n (λ k. cost (stretch s.now from (p + k)) (at q.now (p + k))) }
 {
     let mut sum: u64 = 0;
-    let mut k: usize = 0;
-    while k < n {
+    for k in 0..n {
         let j = p + k;
-        let x = s[from + j];
-        let y = q[j];
-        sum += squared(x, y);
-        k += 1;
+        sum += squared(s[from + j], q[j]);
     }
     sum
 }
@@ -43,6 +39,7 @@ pub fn straight(s: &[i32], from: usize, q: &[i32], limit: u64) -> u64
     let m = q.len();
     let mut total: u64 = 0;
     let mut i: usize = 0;
+    // Not a `for` over blocks: that tells LLVM that fewer than 16 values are left in the end, and it does not vectorise so few.
     while 16 <= m - i {
         total += part(s, from, q, i, 16);
         if limit < total {

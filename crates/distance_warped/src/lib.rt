@@ -14,14 +14,17 @@ ghost use Rattle.distance_envelope.specs.Envelope.{Envelopes};
 ghost use Rattle.distance_warped.specs.Rows.{big, cells, RowIs, LeastOf};
 
 use distance_bound::{envelope_bound, excess_at};
-use numbers::{lesser, monus, squared};
+use numbers::squared;
+
+// More than any total.
+const BIG: u64 = 819200000000;
 
 // The place after the last of the band in row `k`.
 pub fn band_high(k: usize, b: usize, m: usize) -> usize
     requires { k < m }
     ensures { result ≡ min (k + b + 1) m }
 {
-    if b < m - k { k + b + 1 } else { m }
+    k + 1 + b.min(m - 1 - k)
 }
 
 // A cell of the table, of the three before it.
@@ -31,8 +34,7 @@ pub fn cell(corner: u64, above: u64, left: u64, x: i32, y: i32) -> u64
     requires in_limits_2 { InLimits y }
     ensures { result ≡ min (min corner above) left + cost x y }
 {
-    let near = lesser(corner, above);
-    lesser(near, left) + squared(x, y)
+    corner.min(above).min(left) + squared(x, y)
 }
 
 // `big` at each place to `m`.
@@ -40,11 +42,7 @@ pub fn fill_row(row: &mut [u64], m: usize)
     requires { m < length row.old }
     ensures { (k : ℕ) → k ≤ m → get_or row.new k 0 ≡ big }
 {
-    let mut k: usize = 0;
-    while k <= m {
-        row[k] = 819200000000;
-        k += 1;
-    }
+    row[..=m].fill(BIG);
 }
 
 // The first row of the table.
@@ -59,12 +57,9 @@ pub fn first_row(s: &[i32], from: usize, q: &[i32], b: usize, row: &mut [u64])
     let x = s[from];
     let hi = band_high(0, b, m);
     let mut left: u64 = 0;
-    let mut j: usize = 0;
-    while j < hi {
-        let y = q[j];
-        left = left + squared(x, y);
-        j += 1;
-        row[j] = left;
+    for j in 0..hi {
+        left += squared(x, q[j]);
+        row[j + 1] = left;
     }
 }
 
@@ -80,21 +75,18 @@ pub fn next_row(s: &[i32], from: usize, q: &[i32], b: usize, i: usize, row: &mut
     let m = q.len();
     let k = i + 1;
     let x = s[from + k];
-    let lo = monus(k, b);
+    let lo = k.saturating_sub(b);
     let hi = band_high(k, b, m);
     let mut corner = row[lo];
-    row[lo] = 819200000000;
-    let mut left: u64 = 819200000000;
-    let mut least: u64 = 18446744073709551615;
-    let mut j = lo;
-    while j < hi {
-        let y = q[j];
+    row[lo] = BIG;
+    let mut left = BIG;
+    let mut least = u64::MAX;
+    for j in lo..hi {
         let above = row[j + 1];
-        left = cell(corner, above, left, x, y);
+        left = cell(corner, above, left, x, q[j]);
         corner = above;
-        least = lesser(left, least);
-        j += 1;
-        row[j] = left;
+        least = left.min(least);
+        row[j + 1] = left;
     }
     least
 }
@@ -121,12 +113,9 @@ pub fn table_within(
     let m = q.len();
     first_row(s, from, q, b, row);
     let mut rest = bound - excess_at(s, from, low, high, 0);
-    let last = m - 1;
-    let mut i: usize = 0;
-    while i < last {
+    for i in 0..m - 1 {
         let least = next_row(s, from, q, b, i, row);
-        i += 1;
-        rest -= excess_at(s, from, low, high, i);
+        rest -= excess_at(s, from, low, high, i + 1);
         if limit < least + rest {
             return least + rest;
         }

@@ -1,8 +1,8 @@
 -- Laws of specs/Answer.
-use Rattle.meaning_numbers.proofs.Prelude.{◌≡◌, refl, true, false, ⊎_elim, ℕ, ◌<◌, ◌≤◌, arith, dec_le, leb, leb→le, le→leb, ℤ, is_true, is_false, decided}
+use Rattle.meaning_numbers.proofs.Prelude.{◌≡◌, refl, true, false, ⊎_elim, None, Some, ℕ, ◌<◌, ◌≤◌, arith, dec_le, leb, leb→le, le→leb, ℤ, is_true, is_false, decided}
 use Rattle.meaning_curves.specs.{Straight.straight, Match.distance}
 use Rattle.numbers.specs.Within.{Within}
-use Rattle.distance_within.specs.{declared.Match.TheVariants.Yes, declared.Match.TheVariants.No, Answer.nearness}
+use Rattle.distance_within.specs.Answer.{nearness}
 
 -- ---- tests of numbers
 
@@ -14,10 +14,10 @@ leb_no {x} {y} h = ⊎_elim (λ t. absurd (omega (arith, leb→le x y t))) (is_f
 
 -- ---- answers
 
-pub yes-answer : {d E : ℕ} → d ≤ E → Yes d ≡ nearness d E
+pub yes-answer : {d E : ℕ} → d ≤ E → Some d ≡ nearness d E
 yes-answer {d} {E} h = rw (leb_yes h)
 
-pub no_answer : {d E : ℕ} → E < d → No ≡ nearness d E
+pub no_answer : {d E : ℕ} → E < d → None ≡ nearness d E
 no_answer {d} {E} h = rw (leb_no h)
 
 pub within-answer : {d E r : ℕ} → Within d E r → nearness r E ≡ nearness d E

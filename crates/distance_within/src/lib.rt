@@ -18,21 +18,14 @@ use distance_straight::straight;
 use distance_warped::warped_in;
 use values::Sums;
 
-// Whether a stretch matches, and its distance.
-#[derive(Clone, Copy)]
-pub enum Match {
-    Yes { distance: u64 },
-    No,
-}
-
 // A distance where it is at most the threshold.
-pub fn near_enough(d: u64, threshold: u64) -> Match
+pub fn near_enough(d: u64, threshold: u64) -> Option<u64>
     ensures { result ≡ nearness d threshold }
 {
     if threshold < d {
-        return Match::No;
+        return None;
     }
-    Match::Yes { distance: d }
+    Some(d)
 }
 
 // The distance of a curve and the stretch of `s` that starts at `from`, where it is at most the threshold: straight at band 0, else warped. `row` is room for a row of the table.
@@ -45,7 +38,7 @@ pub fn compare(
     b: usize,
     threshold: u64,
     row: &mut [u64],
-) -> Match
+) -> Option<u64>
     requires curve_in_bounds { from + length curve.now ≤ length s.now }
     requires curve_fits { (0 < length curve.now) × (length curve.now ≤ longest_query) × (length curve.now < length row.old) }
     requires all_in { AllIn s.now × AllIn curve.now }
@@ -80,6 +73,7 @@ pub fn normalise_within(
     let f = factor(a);
     let mut total: u64 = 0;
     let mut i: usize = 0;
+    // A `while` for the reason that `envelope_bound` has.
     while 16 <= m - i {
         normalise_part(s, from, t, a, f, i, 16, out);
         let end = i + 16;
@@ -106,7 +100,7 @@ pub fn compare_normal(
     threshold: u64,
     room: &mut [i32],
     row: &mut [u64],
-) -> Match
+) -> Option<u64>
     requires normal_ready { NormalReady s.now from (length curve.now) t.values t.squares a }
     requires curve_nonzero { (0 < length curve.now) × AllIn curve.now }
     requires room_fits { (length room.old ≡ length curve.now) × (length curve.now < length row.old) }
@@ -115,7 +109,7 @@ pub fn compare_normal(
 {
     let bound = normalise_within(s, from, t, a, low, high, threshold, room);
     if threshold < bound {
-        return Match::No;
+        return None;
     }
     compare(room, 0, curve, low, high, b, threshold, row)
 }

@@ -1,38 +1,27 @@
 // The entry that builds an index: refused, or the index in the lent index_buffers.
 #![tactic(auto)]
 
-ghost use Rattle.std.specs.Prelude.{◌≡◌, ◌+◌, ◌-◌, ◌≤◌, length};
+ghost use Rattle.std.specs.Prelude.{◌≡◌, ◌+◌, ◌-◌, ◌≤◌, length, Ok};
 ghost use Rattle.meaning_curves.specs.Limits.{most_values};
 ghost use Rattle.meaning_curves.specs.Curve.{window_count};
 ghost use Rattle.meaning_entries.specs.Build.{lent_build};
 ghost use Rattle.meaning_entries.specs.Demand2.{BuildKept};
 ghost use Rattle.meaning_entries.specs.Buffers.{index_buffers};
-ghost use Rattle.entry_build.specs.Answer.{refused_as, index_as, PlannedFor};
+ghost use Rattle.entry_build.specs.Answer.{index_as, PlannedFor};
 
 use build_passes::build_rows;
 use build_plan::{BuildPlan, make_plan};
-use meaning_entries::Built;
+use meaning_entries::{Held, Refusal};
 use meaning_rows::{Head, Row};
-use numbers::place_before;
 use rows_records::row_at;
 
-// The answer of a refused call.
-pub fn refuse(p: BuildPlan) -> Built
-    ensures { result ≡ refused_as p }
-{
-    Built::Refused {
-        number: p.refusal.number,
-        place: p.refusal.place,
-    }
-}
-
 // The answer of a call that built `n` rows, the last of which is `r`.
-pub fn answer(series: &[i32], w: u32, d: u32, n: usize, r: Row) -> Built
+pub fn answer(series: &[i32], w: u32, d: u32, n: usize, r: Row) -> Held
     requires { (w ≤ length series.now) × (length series.now ≤ most_values) }
     ensures { result ≡ index_as (window_count (length series.now) w) w d n r }
 {
     let windows = series.len() + 1 - w as usize;
-    Built::Index {
+    Held {
         head: Head {
             window: w,
             width: d,
@@ -43,14 +32,7 @@ pub fn answer(series: &[i32], w: u32, d: u32, n: usize, r: Row) -> Built
     }
 }
 
-// The same number with 64 bits.
-pub fn widened(g: u32) -> u64
-    ensures { result ≡ g }
-{
-    g as u64
-}
-
-// The index by a plan that does not refuse, and the answer.
+// The index by the plan of a call, and the answer.
 pub fn build_planned(
     series: &[i32],
     w: u32,
@@ -60,16 +42,22 @@ pub fn build_planned(
     rows: &mut [Row],
     left: &mut [u32],
     right: &mut [u32],
-) -> Built
-    requires { (PlannedFor series.now w d g (index_buffers rows.old left.old right.old) p) × (p.refusal.number ≡ 0) }
-    ensures { BuildKept (lent_build series.now w d g) (index_buffers rows.old left.old right.old) result (index_buffers rows.new left.new right.new) }
+) -> Held
+    requires { PlannedFor series.now w d g (index_buffers rows.old left.old right.old) p }
+    ensures { BuildKept (lent_build series.now w d g) (index_buffers rows.old left.old right.old) (Ok result) (index_buffers rows.new left.new right.new) }
 {
-    let m = widened(g);
     let n = build_rows(
-        series, p.window, p.extra, p.width, p.bias, m, rows, left, right,
+        series,
+        p.window,
+        p.extra,
+        p.width,
+        p.bias,
+        u64::from(g),
+        rows,
+        left,
+        right,
     );
-    let k = place_before(n);
-    let r = row_at(rows, k);
+    let r = row_at(rows, n - 1);
     answer(series, w, d, n, r)
 }
 
@@ -82,12 +70,9 @@ pub fn build(
     rows: &mut [Row],
     left: &mut [u32],
     right: &mut [u32],
-) -> Built
+) -> Result<Held, Refusal>
     ensures { BuildKept (lent_build series.now w d g) (index_buffers rows.old left.old right.old) result (index_buffers rows.new left.new right.new) }
 {
-    let p = make_plan(series, w, d, g, rows.len(), left.len(), right.len());
-    if p.refusal.number != 0 {
-        return refuse(p);
-    }
-    build_planned(series, w, d, g, p, rows, left, right)
+    let p = make_plan(series, w, d, g, rows.len(), left.len(), right.len())?;
+    Ok(build_planned(series, w, d, g, p, rows, left, right))
 }

@@ -1,16 +1,12 @@
 -- What an extension answers, and that it keeps its promise.
 use Rattle.std.specs.Prelude.{ℕ, ◌+◌, ◌*◌, ◌≤◌, ◌≡◌}
-use Rattle.meaning_rows.specs.{declared.Row.Row, declared.Head.Head, Index.Index}
-use Rattle.meaning_entries.specs.declared.Extended.{Extended}
-use Rattle.refusals.specs.declared.Refusal.{Refusal}
+use Rattle.meaning_rows.specs.{declared.Row.Row, declared.Head.Head}
+use Rattle.meaning_entries.specs.{declared.Held.Held, Answers.held}
 use Rattle.entry_extend.specs.declared.Lift.{Lift}
 
-abbrev pub refused_as : Refusal → Extended
-refused_as p = Extended.Refused p.number p.place
-
 -- the answer with the old head and so many windows, n rows, and as many runs as the parts up to that of the last row r have
-abbrev pub index_as : ℕ → Head → ℕ → Row → Extended
-index_as windows h n r = Extended.Index (record { window = h.window; width = h.width; windows = windows }) n (r.first + r.runs)
+abbrev pub index_as : ℕ → Head → ℕ → Row → Held
+index_as windows h n r = held (record { window = h.window; width = h.width; windows = windows }) n (r.first + r.runs)
 
 -- the numbers of a head, and sums of windows raised by a multiple of the row width
 pub record Lifts (w d old : ℕ) (l : Lift) : Type 0 where

@@ -42,21 +42,18 @@ spelled-ended {store = false} {b = b} {l = l} {m = m} {j = j} {k = k} p q =
     let s = spelled-then p (record { holds = refl; ends = q.ends }) in
     record { holds = q.holds ∙ p.holds; ends = s.ends }
 
--- ---- the loop over the row records
-
--- after the head and k rows
+-- ---- the loop over the row records: after the head and k rows
 pub record Spelling (store : Bool) (old : List ℕ) (h : Head) (rows : List Row) (left right : List ℕ) (now : List ℕ) (to k : ℕ) : Type 0 where
   pub spelled : Spelled store old 0 (head_text (pos h.window) (pos h.width) (pos h.windows) ++ rows_text (take k rows) left right) now to
-  pub within : k ≤ length rows
 
 module _ {store : Bool} {old : List ℕ} {h : Head} (rows : List Row) (left right : List ℕ) where
   pub spelling-starts : {now : List ℕ} {to : ℕ} → Spelled store old 0 (head_text (pos h.window) (pos h.width) (pos h.windows)) now to → Spelling store old h rows left right now to 0
   unfolding rows_text spell_many
-  spelling-starts p = record { spelled = rw append-nil p; within = omega arith }
+  spelling-starts p = record { spelled = rw append-nil p }
 
 module _ {store : Bool} {old : List ℕ} {h : Head} {rows : List Row} {left right now : List ℕ} {to k : ℕ} (s : Spelling store old h rows left right now to k) where
   pub spelling-turn : (d : Row) {new : List ℕ} {next : ℕ} → k < length rows → Spelled store now to (row_text (get_or rows k d) left right) new next → Spelling store old h rows left right new next (k + 1)
-  spelling-turn d l p = record { spelled = rw (rows-turn rows left right d k l) (rw append_assoc at (spelled-then s.spelled p)); within = omega arith }
+  spelling-turn d l p = record { spelled = rw (rows-turn rows left right d k l) (rw append_assoc at (spelled-then s.spelled p)) }
 
   pub spelling-ends : {new : List ℕ} {next : ℕ} → length rows ≤ k → Ended store now to end_text new next → Ended store old 0 (index_text (lent h rows left right)) new next
   spelling-ends l p = let e : take k rows ≡ rows = take_all k rows l in rw (sym (index-parts h rows left right)) (spelled-ended (rw e at s.spelled) p)

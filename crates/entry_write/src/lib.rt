@@ -7,15 +7,14 @@ ghost use Rattle.meaning_text.specs.Texts.{index_text};
 ghost use Rattle.meaning_entries.specs.Demand2.{WriteKept};
 ghost use Rattle.text_write.specs.Write.{head_text, end_text, row_text};
 ghost use Rattle.entry_write.specs.Spell.{Spelled, Ended};
-ghost use Rattle.refusals.specs.Refusal.{refusal_of};
-ghost use Rattle.entry_write.specs.Answer.{table_of, answer_of, is_refused};
+ghost use Rattle.refusals.specs.Refusal.{verdict};
+ghost use Rattle.entry_write.specs.Answer.{table_of};
 
-use clear::clear_u8;
-use meaning_entries::Written;
+use clear::clear;
+use meaning_entries::{Reason, Refusal};
 use meaning_rows::{Head, Row};
-use refusals::{Refusal, refuse_if, refuse_judged, unrefused};
-use rows_judge::{Judged, judge};
-use rows_records::row_at;
+use refusals::{refuse_if, refuse_judged};
+use rows_judge::judge;
 use text_count::{count_end, count_head, count_row};
 use text_write::{write_end, write_head, write_row};
 
@@ -52,7 +51,7 @@ pub fn spell_end(text: &mut [u8], store: bool, at: usize) -> usize
 {
     if store {
         let to = write_end(text, at);
-        clear_u8(text, to);
+        clear(text, to, 0);
         return to;
     }
     count_end(text.len(), at)
@@ -70,59 +69,33 @@ pub fn spell_index(
     ensures { Ended store text.old 0 (index_text (lent head rows.now left.now right.now)) text.new result }
 {
     let mut to = spell_head(text, store, head);
-    let mut k: usize = 0;
-    while k < rows.len() {
-        let r = row_at(rows, k);
+    for &r in rows {
         to = spell_row(text, store, to, r, left, right);
-        k += 1;
     }
     spell_end(text, store, to)
 }
 
 // What refuses a text of n bytes, counted to one past the buffer's size, by what judging said of its index.
-pub fn refuse_write(j: Judged, n: usize, size: usize) -> Refusal
-    ensures { result ≡ refusal_of (table_of j n size) }
+pub fn refuse_write(judged: Result<usize, usize>, n: usize, size: usize) -> Result<(), Refusal>
+    ensures { result ≡ verdict (table_of judged n size) }
 {
-    refuse_judged(j, refuse_if(size < n, 23, unrefused()))
+    refuse_judged(judged)?;
+    refuse_if(size < n, Reason::Room)
 }
 
-// What is answered.
-pub fn answer(j: Judged, n: usize, size: usize) -> Written
-    ensures { result ≡ answer_of j n size }
-{
-    let r = refuse_write(j, n, size);
-    if r.number != 0 {
-        return Written::Refused {
-            number: r.number,
-            place: r.place,
-        };
-    }
-    Written::Text { length: n }
-}
-
-#[tactic(auto, unfolding(crate::specs::Answer::is_refused))]
-pub fn is_refused(a: Written) -> bool
-    ensures { result ≡ is_refused a }
-{
-    match a {
-        Written::Text { length: _ } => false,
-        Written::Refused {
-            number: _,
-            place: _,
-        } => true,
-    }
-}
-
-// The entry.
-pub fn write(head: Head, rows: &[Row], left: &[u32], right: &[u32], text: &mut [u8]) -> Written
+// The entry: how many bytes the text has.
+pub fn write(
+    head: Head,
+    rows: &[Row],
+    left: &[u32],
+    right: &[u32],
+    text: &mut [u8],
+) -> Result<usize, Refusal>
     ensures { WriteKept (lent head rows.now left.now right.now) text.old result text.new }
 {
-    let j = judge(head, rows, left, right);
+    let judged = judge(head, rows, left, right);
     let n = spell_index(text, false, head, rows, left, right);
-    let a = answer(j, n, text.len());
-    if is_refused(a) {
-        return a;
-    }
+    refuse_write(judged, n, text.len())?;
     spell_index(text, true, head, rows, left, right);
-    a
+    Ok(n)
 }

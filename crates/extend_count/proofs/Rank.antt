@@ -1,7 +1,9 @@
 -- Laws of specs/Rank.
+use Rattle.std.specs.List.Sorted.{IsPartitionedBy, IsPartitionPoint}
+use Rattle.std.proofs.lemmas.List.{get_or_default}
 use Rattle.meaning_numbers.specs.Sum.{count}
 use Rattle.meaning_numbers.proofs.Count.{count_none, count-more, count-cong, bit-true, bit-false}
-use Rattle.meaning_numbers.proofs.Prelude.{◌≡◌, sym, ◌∙◌, List, ℕ, zero, suc, ◌+◌, ◌<◌, ◌≤◌, arith, dec_lt, leb, ltb, get_or, le-leb, lt-leb, lt-ltb, le-ltb}
+use Rattle.meaning_numbers.proofs.Prelude.{◌≡◌, sym, ◌∙◌, List, ℕ, zero, suc, ◌+◌, ◌<◌, ◌≤◌, arith, dec_lt, leb, ltb, true, false, length, take, length-take, get_or, get_or-take, leb-true, leb-false, le-leb, lt-leb, lt-ltb, le-ltb}
 use Rattle.extend_count.specs.Rank.{rank, Climbing}
 
 count-first : (r n : ℕ) → r ≤ n → count (λ i. ltb i r) n ≡ r
@@ -20,6 +22,25 @@ rank_is ups n x r h a b =
       | yes s ↦ le-leb _ x (a i s) ∙ sym (lt-ltb i r s)
       | no f ↦ lt-leb _ x (b i (omega arith) l) ∙ sym (le-ltb i r (omega arith))
     ]) ∙ count-first r n h
+
+-- ---- what `partition_point` says of the first n ends, which ascend
+
+module _ (ups : List ℕ) (n x : ℕ) (within : n ≤ length ups) where
+  front_at : (k d : ℕ) → k < n → get_or (take n ups) k d ≡ get_or ups k 0
+  front_at k d h = get_or-take n ups k d h ∙ get_or_default ups k d 0 (omega arith)
+
+  pub parted : Climbing ups n → IsPartitionedBy (λ y. leb y x) (take n ups)
+  parted c i j d order h t =
+      let low : j < n = omega (arith, h, length-take n ups) in
+      let top : get_or ups j 0 ≤ x = leb-true (get_or ups j 0) x (rw (front_at j d low) at t) in
+      rw (front_at i d (omega arith)) (le-leb (get_or ups i 0) x (omega (arith, c.up i j order low)))
+
+  pub ranked : (k : ℕ) → k ≤ length (take n ups) → IsPartitionPoint (λ y. leb y x ≡ true) (λ y. leb y x ≡ false) (take n ups) k → k ≡ rank ups n x
+  ranked k h p =
+      let long : length (take n ups) ≡ n = omega (arith, length-take n ups) in
+      sym (rank_is ups n x k (omega arith)
+      (λ i l. leb-true (get_or ups i 0) x (rw (front_at i 0 (omega arith)) at (p.0 i 0 (omega arith) l)))
+      (λ i l b. leb-false (get_or ups i 0) x (rw (front_at i 0 b) at (p.1 i 0 l (omega arith)))))
 
 -- what the rank says: the ends before it are at most the number, and its own is above
 module _ {ups : List ℕ} {n : ℕ} (c : Climbing ups n) (x : ℕ) where

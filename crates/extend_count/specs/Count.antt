@@ -1,6 +1,6 @@
 -- Counting the runs of new windows in their rows, by rank.
 use Rattle.std.specs.Prelude.{ℕ, ◌+◌, ◌<◌, ◌≤◌, leb, ℤ, length, get_or, cond, List, ◌≡◌}
-use Rattle.meaning_rows.specs.Runs.{before, run_count}
+use Rattle.meaning_rows.specs.Runs.{run_count}
 use Rattle.sums_slide.specs.Levels.{level, Lent, windows_of}
 use Rattle.extend_count.specs.Rank.{rank, Climbing}
 unfoldable pub use Rattle.sums_count.specs.Tally.{is_row}

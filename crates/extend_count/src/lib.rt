@@ -28,12 +28,10 @@ pub fn list_ends(rows: &[Row], count: usize, bias: u64, ups: &mut [u32], counts:
     requires { Listable rows.now count bias (length ups.old) (length counts.old) }
     ensures { (ups.new ≡ listed (end_of rows.now bias) count ups.old) × (counts.new ≡ listed (size_of rows.now) count counts.old) }
 {
-    let mut i: usize = 0;
-    while i < count {
+    for i in 0..count {
         let r = row_at(rows, i);
         ups[i] = raised_end(r.up, bias);
         counts[i] = r.runs;
-        i += 1;
     }
 }
 
@@ -43,17 +41,7 @@ pub fn find_above(ups: &[u32], count: usize, n: u64) -> usize
     requires climbing { Climbing ups.now count }
     ensures { result ≡ rank ups.now count n }
 {
-    let mut lo: usize = 0;
-    let mut hi = count;
-    while lo < hi {
-        let mid = lo + (hi - lo) / 2;
-        if ups[mid] as u64 <= n {
-            lo = mid + 1;
-        } else {
-            hi = mid;
-        }
-    }
-    lo
+    ups[..count].partition_point(|&end| end as u64 <= n)
 }
 
 // The raised sum of a window, if there is one.
@@ -82,26 +70,16 @@ pub fn count_new(
     ensures { Counted s.now w e old ups.now count counts.old (windows_of s.now w) counts.new }
 {
     let windows = s.len() + 1 - w;
-    let mut j = old;
-    let mut n = level_at(s, w, e, old);
-    while j < windows {
-        let i = find_above(ups, count, n);
-        counts[i] = counts[i] + 1;
+    let mut at = Window {
+        offset: old,
+        level: level_at(s, w, e, old),
+    };
+    while at.offset < windows {
+        let i = find_above(ups, count, at.level);
+        counts[i] += 1;
         let low = start_of(ups, i) as u64;
         let up = ups[i] as u64;
-        let next = next_out(
-            s,
-            w,
-            e,
-            Window {
-                offset: j,
-                level: n,
-            },
-            low,
-            up,
-        );
-        j = next.offset;
-        n = next.level;
+        at = next_out(s, w, e, at, low, up);
     }
 }
 
@@ -112,9 +90,5 @@ pub fn last_ends(r: Row, right: &[u32], j: usize) -> bool
 {
     let first = r.first as usize;
     let runs = r.runs as usize;
-    if runs == 0 {
-        false
-    } else {
-        right[first + runs - 1] as usize + 1 == j
-    }
+    runs != 0 && right[first + runs - 1] as usize + 1 == j
 }

@@ -34,17 +34,17 @@ pub fn list_new(
     }
 }
 
-// The count of row `i` is one less where the first new run joins an old one.
+// The count of row `i` is one less where the first new run joins an old one. A flag and no Option of the row, which is known in either case: `less_join` says both.
 pub fn take_join(joins: bool, i: usize, counts: &mut [u32])
     requires { joins ≡ true → (i < length counts.old) × (1 ≤ get_or counts.old i 0) }
     ensures { counts.new ≡ less_join joins i counts.old }
 {
     if joins {
-        counts[i] = counts[i] - 1;
+        counts[i] -= 1;
     }
 }
 
-// Where the first new run joins an old one, that run's right end, at `spot` of the row's part, goes on to the end of the new one; where the next run begins.
+// Where the first new run joins an old one, that run's right end, at `spot` of the row's part, goes on to the end of the new one; where the next run begins. A flag and no Option of the rest, which is known in either case: `JoinedRun` says both.
 pub fn join_run(
     s: &[i32],
     w: usize,

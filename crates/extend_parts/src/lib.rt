@@ -30,11 +30,8 @@ pub fn lay_rows(ends: &[u32], count: usize, rows: &mut [Row])
     requires { (count ≤ length rows.old) × ((i : ℕ) → i < count → EndsRoom ends.now i) }
     ensures { rows.new ≡ laid_to ends.now count rows.old }
 {
-    let mut i: usize = 0;
-    while i < count {
-        let r = rows[i];
-        rows[i] = with_part(r, ends, i);
-        i += 1;
+    for i in 0..count {
+        rows[i] = with_part(rows[i], ends, i);
     }
 }
 
@@ -52,11 +49,7 @@ pub fn write_part(numbers: &[u32], n: usize, size: usize, part: &mut [u32])
     requires { (n ≤ length numbers.now) × (n ≤ size) × (size ≤ length part.old) × (n < 4294967296) }
     ensures { part.new ≡ written n size numbers.now part.old }
 {
-    let mut t: usize = 0;
-    while t < n {
-        part[t] = numbers[t];
-        t += 1;
-    }
+    part[..n].copy_from_slice(&numbers[..n]);
     if n < size {
         part[size - 1] = n as u32;
     }
@@ -91,12 +84,10 @@ pub fn copy_column(old: &[Row], from: &[u32], rows: &[Row], count: usize, to: &m
 {
     let end = end_row();
     let mut a: usize = 0;
-    let mut i: usize = 0;
-    while i < count {
+    for i in 0..count {
         let r = row_at(rows, i);
         let o = row_or(old, a, end);
         copy_part(o, r, from, to);
         a = old_passed(a, o, r);
-        i += 1;
     }
 }

@@ -22,32 +22,13 @@ use meaning_rows::Row;
 use rows_pack::sum_up;
 use rows_records::clear_rows;
 
-// The row numbers of the windows from `old` on, as `list_new` gives them. What the flags hold does not matter.
-pub fn list_by(
-    flags: [u8; 262144],
-    s: &[i32],
-    old: usize,
-    w: usize,
-    e: u64,
-    d: u64,
-    out: &mut [u32],
-) -> usize
-    requires lent { Lent s.now w e }
-    requires bound { old ≤ windows_of s.now w }
-    requires le_d { (1 ≤ d) × (d ≤ widest_row) }
-    requires d_in_bounds { length (new_table s.now old w e d) ≤ length out.old }
-    ensures { Appended (new_table s.now old w e d) 0 result out.old out.new }
-{
-    let mut marks = flags;
-    list_new(s, old, w, e, d, &mut marks, out)
-}
-
-// The same, with flags of its own.
+// The row numbers of the windows from `old` on, as `list_new` gives them.
 pub fn list_numbers(s: &[i32], old: usize, w: usize, e: u64, d: u64, out: &mut [u32]) -> usize
     requires { (Lent s.now w e) × (old ≤ windows_of s.now w) × ((1 ≤ d) × (d ≤ widest_row)) × (length (new_table s.now old w e d) ≤ length out.old) }
     ensures { Appended (new_table s.now old w e d) 0 result out.old out.new }
 {
-    list_by([0; 262144], s, old, w, e, d, out)
+    let mut flags = [0; 262144];
+    list_new(s, old, w, e, d, &mut flags, out)
 }
 
 // The runs of the new windows counted; the row of the first new window, or 0 if no window is new.

@@ -1,6 +1,6 @@
 -- The rows of an extension, laid out as records, are rows that the pass can fill from the old window count on (`extended-rowed`), and rows that the old runs can be copied to (`extended-laid`).
 use Rattle.meaning_numbers.specs.{Order.within, Sum.Σℕ}
-use Rattle.meaning_numbers.proofs.Prelude.{◌≡◌, refl, sym, ap, ◌∙◌, subst, Bool, List, map, ℕ, ◌+◌, ◌-◌, ◌<◌, ◌≤◌, arith, ℤ, pos, length, get_or, take, length-map, get_or-take, ◌≤ℤ◌, zarith, le_z-true, both}
+use Rattle.meaning_numbers.proofs.Prelude.{◌≡◌, refl, sym, ap, ◌∙◌, subst, Bool, List, map, ℕ, ◌+◌, ◌<◌, ◌≤◌, arith, ℤ, pos, length, get_or, take, length-map, get_or-take, ◌≤ℤ◌, zarith, le_z-true, both}
 use Rattle.meaning_numbers.proofs.{Sum.Σℕ-same, Member.all-mem, Member.mem-all, Member.mem-at}
 use Rattle.meaning_curves.specs.{Limits.lowest_end}
 use Rattle.meaning_rows.specs.{declared.Row.Row, Range.low_of, Range.up_of, Runs.runs, Runs.run_count, Index.Index, Index.records, Index.all_runs, Build.entry, Build.with_runs, Extend.grown, Extend.extended_rows, Extend.extended}

@@ -23,25 +23,19 @@ pub fn place_at(s: &[i32], w: usize, e: u64, j: usize) -> Window
     requires j_bound { j ≤ windows_of s.now w }
     ensures { At s.now w e result × (result.offset ≡ j) }
 {
-    if j < s.len() + 1 - w {
-        Window {
-            offset: j,
-            level: level_at(s, w, e, j),
-        }
+    let level = if j < s.len() + 1 - w {
+        level_at(s, w, e, j)
     } else {
-        Window {
-            offset: j,
-            level: slide(s, w, e, j - 1, level_at(s, w, e, j - 1)),
-        }
-    }
+        slide(s, w, e, j - 1, level_at(s, w, e, j - 1))
+    };
+    Window { offset: j, level }
 }
 
 // Where the last old run of a row stands in the row's part; 0 if it has none.
 pub fn spot_of(r: Row) -> usize
     ensures { result ≡ r.runs - 1 }
 {
-    let runs = r.runs as usize;
-    if runs == 0 { 0 } else { runs - 1 }
+    (r.runs as usize).saturating_sub(1)
 }
 
 // The first new run joined, if it goes on from the last old run of its row; where the next run begins. `q` is the row with its new part, which is lent to its writer, `r` the row with its old runs.

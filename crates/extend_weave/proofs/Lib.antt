@@ -1,4 +1,4 @@
 -- Laws of extend_weave.
-pub mod Fits
+pub mod Tests
 pub mod Weave
 pub mod Woven

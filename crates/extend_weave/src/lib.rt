@@ -77,11 +77,7 @@ pub fn made_after(k: usize, r: Row, low: i32) -> usize
 {
     let least = r.low;
     let up = r.up;
-    if least <= low {
-        if low < up { k } else { k + 1 }
-    } else {
-        k + 1
-    }
+    if least <= low && low < up { k } else { k + 1 }
 }
 
 // The records of the extension's rows, in order of their ranges; how many there are. An old row keeps its part of the old run buffer, and a new one has none.

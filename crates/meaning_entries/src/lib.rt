@@ -57,7 +57,7 @@ impl Refusal {
 }
 
 // An index in lent buffers, built, extended or read: its head, and how many rows and runs of the buffers are its.
-#[derive(Clone, Copy)]
+#[derive(Clone, Copy, PartialEq, Eq)]
 pub struct Held {
     pub head: Head,
     pub rows: usize,
@@ -65,7 +65,7 @@ pub struct Held {
 }
 
 // Of an audit: yes; the first row and offset filed wrongly; or how many windows stand nowhere.
-#[derive(Clone, Copy)]
+#[derive(Clone, Copy, PartialEq, Eq)]
 pub enum Audited {
     Yes,
     Wrong { row: usize, offset: usize },
@@ -73,7 +73,7 @@ pub enum Audited {
 }
 
 // Of a search: all matches are listed; or the list is full, which is refusal 24 and has the true counts; or the closest few are listed (02, item 2), and the counts are of all matches.
-#[derive(Clone, Copy)]
+#[derive(Clone, Copy, PartialEq, Eq)]
 pub enum Found {
     All { candidates: usize, matches: usize },
     Full { candidates: usize, matches: usize },
@@ -81,7 +81,7 @@ pub enum Found {
 }
 
 // Of two audits and two searches: both searches listed their matches, so many; or what stood first in the way answered, an audit that did not say yes or a search that was refused.
-#[derive(Clone, Copy)]
+#[derive(Clone, Copy, PartialEq, Eq)]
 pub enum Both {
     Listed { first: usize, second: usize },
     FirstAudit { audited: Result<Audited, Refusal> },

@@ -2,14 +2,14 @@
 #![tactic(auto)]
 
 // A query's kind.
-#[derive(Clone, Copy)]
+#[derive(Clone, Copy, PartialEq, Eq)]
 pub enum Kind {
     Raw,
     Normal,
 }
 
 // The limits of a search: band b, threshold E, scale limit a in tenths, shift limit h.
-#[derive(Clone, Copy)]
+#[derive(Clone, Copy, PartialEq, Eq)]
 pub struct Limits {
     pub band: u32,
     pub threshold: u64,
@@ -18,14 +18,14 @@ pub struct Limits {
 }
 
 // What a search hands out: all matches; or the closest few, so many at most (02, item 2).
-#[derive(Clone, Copy)]
+#[derive(Clone, Copy, PartialEq, Eq)]
 pub enum Pick {
     All,
     Closest { count: u32 },
 }
 
 // What is asked of a search beside its query.
-#[derive(Clone, Copy)]
+#[derive(Clone, Copy, PartialEq, Eq)]
 pub struct Ask {
     pub kind: Kind,
     pub limits: Limits,

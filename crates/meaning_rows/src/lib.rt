@@ -3,7 +3,7 @@
 
 // A row record: its range [low, up), and its runs, which are `runs` entries of the run buffer from `first` on.
 #[repr(C)]
-#[derive(Clone, Copy)]
+#[derive(Clone, Copy, PartialEq, Eq)]
 pub struct Row {
     pub low: i32,
     pub up: i32,
@@ -13,7 +13,7 @@ pub struct Row {
 
 // The head of an index: window length, row width, number of windows.
 #[repr(C)]
-#[derive(Clone, Copy)]
+#[derive(Clone, Copy, PartialEq, Eq)]
 pub struct Head {
     pub window: u32,
     pub width: u32,

@@ -30,7 +30,7 @@ pub fn root(y: u64) -> u64
         if t * t <= y {
             r = t;
         }
-        width = width - half;
+        width -= half;
     }
     r
 }
@@ -39,10 +39,7 @@ pub fn root(y: u64) -> u64
 pub fn quotient(n: u32, d: u32) -> u32
     ensures { result ≡ n / d }
 {
-    if d == 0 {
-        return 0;
-    }
-    n / d
+    n.checked_div(d).unwrap_or(0)
 }
 
 // The number of the row that holds a sum, for negative sums too; for rows of width 0, which nothing asks for, 0 or -1.
@@ -62,13 +59,7 @@ pub fn row_number(sum: i32, width: u32) -> i32
 pub fn in_limits(x: i32) -> bool
     ensures { result ≡ value_in x }
 {
-    if x < LEAST_VALUE {
-        return false;
-    }
-    if GREATEST_VALUE < x {
-        return false;
-    }
-    true
+    LEAST_VALUE <= x && x <= GREATEST_VALUE
 }
 
 // A value raised by 10,000.
@@ -94,8 +85,7 @@ pub fn gap(x: i32, y: i32) -> u32
     requires in_limits_2 { InLimits y }
     ensures { result ≡ nat_abs (x -ℤ y) }
 {
-    let d = x - y;
-    if d < 0 { (0 - d) as u32 } else { d as u32 }
+    (x - y).unsigned_abs()
 }
 
 // The squared difference of two values.
@@ -106,68 +96,6 @@ pub fn squared(x: i32, y: i32) -> u64
 {
     let d = gap(x, y) as u64;
     d * d
-}
-
-// The size of the difference of two numbers.
-pub fn difference(a: u64, b: u64) -> u64
-    ensures { result ≡ nat_abs (pos a -ℤ pos b) }
-{
-    if a < b { b - a } else { a - b }
-}
-
-// The difference, 0 where it would be negative.
-pub fn monus(a: usize, b: usize) -> usize
-    ensures { result ≡ a - b }
-{
-    if a < b { 0 } else { a - b }
-}
-
-pub fn lesser(a: u64, b: u64) -> u64
-    ensures { result ≡ min a b }
-{
-    if a < b { a } else { b }
-}
-
-pub fn greater(a: u64, b: u64) -> u64
-    ensures { result ≡ max a b }
-{
-    if a < b { b } else { a }
-}
-
-pub fn lesser_value(x: i32, y: i32) -> i32
-    ensures { result ≡ minℤ x y }
-{
-    if x < y { x } else { y }
-}
-
-pub fn greater_value(x: i32, y: i32) -> i32
-    ensures { result ≡ maxℤ x y }
-{
-    if x < y { y } else { x }
-}
-
-// A number without its sign.
-pub fn magnitude(z: i32) -> u32
-    ensures { result ≡ nat_abs z }
-{
-    if z < 0 {
-        let y = 0 - (z + 1);
-        (y as u32) + 1
-    } else {
-        z as u32
-    }
-}
-
-pub fn lesser_of(x: i64, y: i64) -> i64
-    ensures { result ≡ minℤ x y }
-{
-    if x < y { x } else { y }
-}
-
-pub fn greater_of(x: i64, y: i64) -> i64
-    ensures { result ≡ maxℤ x y }
-{
-    if x < y { y } else { x }
 }
 
 // The quotient, rounded down for negative numbers too.
@@ -189,70 +117,19 @@ pub fn ceil_quotient(z: i64, d: u64) -> i64
     requires { (0 < d) × Small 4611686018427387904 z }
     ensures { result ≡ ceilℤ z d }
 {
-    let f = floor_quotient(0 - z, d);
-    0 - f
-}
-
-// The sum of two numbers.
-pub fn plus(x: i64, y: i64) -> i64
-    requires { Small 4000000000000000 x × Small 4000000000000000 y }
-    ensures { result ≡ x +ℤ y }
-{
-    x + y
-}
-
-// The difference of two numbers.
-pub fn minus(x: i64, y: i64) -> i64
-    requires { Small 4000000000000000 x × Small 4000000000000000 y }
-    ensures { result ≡ x -ℤ y }
-{
-    x - y
-}
-
-// The product of two numbers.
-pub fn times(x: i64, y: i64) -> i64
-    requires { Small 40000000 x × Small 300000000 y }
-    ensures { result ≡ x *ℤ y }
-{
-    x * y
+    -floor_quotient(-z, d)
 }
 
 // The nearest value that an i32 holds.
 pub fn narrow(z: i64) -> i32
     ensures { result ≡ clamp z }
 {
-    if z < -2147483648 {
-        return -2147483648;
-    }
-    if 2147483647 < z {
-        return 2147483647;
-    }
-    z as i32
+    z.clamp(i32::MIN as i64, i32::MAX as i64) as i32
 }
 
 // A number as a u32 holds it; one that it does not hold becomes the greatest, which is outside every limit.
 pub fn hold(z: i64) -> u32
     ensures { result ≡ held z }
 {
-    if z < 0 {
-        return 4294967295;
-    }
-    if 4294967295 < z {
-        return 4294967295;
-    }
-    z as u32
-}
-
-// The place before `k`, or 0.
-pub fn place_before(k: usize) -> usize
-    ensures { result ≡ k - 1 }
-{
-    if k == 0 { 0 } else { k - 1 }
-}
-
-// The lesser of two lengths.
-pub fn shorter(a: usize, b: usize) -> usize
-    ensures { result ≡ min a b }
-{
-    if a < b { a } else { b }
+    u32::try_from(z).unwrap_or(u32::MAX)
 }

@@ -1,4 +1,5 @@
 -- The number of an answer fits 64 bits (`number_small`): a line of an index text has at least 8 bytes but the last, a series line is one line, and rows and offsets are no more than windows.
+use Rattle.std.specs.Prelude.{Ok, Err}
 use Rattle.meaning_numbers.proofs.Member.{All}
 use Rattle.meaning_numbers.proofs.Prelude.{◌≡◌, refl, sym, ap, ◌∙◌, Bool, true, false, not, cond, List, [], ◌∷◌, ◌++◌, append-nil, ⊎_elim, Option, None, Some, ℕ, zero, suc, ◌+◌, ◌*◌, ◌<◌, ◌≤◌, ◌^◌, arith, eqb, ltb, ℤ, pos, negsuc, nat_abs, length, get_or, take, length-take-le, lt_z, ne_eqb, ltb-true}
 use Rattle.meaning_curves.specs.Limits.{most_values, most_program_values, length_in, lowest_end, first_outside}
@@ -8,7 +9,7 @@ use Rattle.meaning_rows.proofs.Judge.{GoodRows, between, runs-lengths, well-form
 use Rattle.meaning_text.specs.{Bytes.bytes, Bytes.newlines, Number.spellℕ, Number.spellℤ, Form.Value, Form.spell_many, Form.spell, Read.Verdict, Read.fine, Read.unfit, Read.read_text, Read.line_of, Texts.index_form, Texts.series_form}
 use Rattle.meaning_text.proofs.{Reading.on-flag, Number.spell-one, Number.spell-more, Number.by_digits, Texts.index-laws, Texts.series-laws, Lines.newlines-append, Lines.index-lines, Lines.bad-line}
 use Rattle.meaning_entries.specs.Refusal.{Condition, first_refusal, length_outside, value_outside, ill_formed, windows_of, fewer_windows, more_windows}
-use Rattle.meaning_entries.specs.{declared.Audited.Audited, Audit.AuditCall, Audit.audit_table, Audit.complete, Audit.audited, Load.text_index, AuditText.pack_refusal, AuditText.pack, AuditText.audit_text_answer}
+use Rattle.meaning_entries.specs.{Answers.refusal, Audit.AuditCall, Audit.audit_table, Audit.complete, Audit.audited, Load.text_index, AuditText.pack_refusal, AuditText.pack, AuditText.audit_text_answer}
 use Rattle.meaning_entries.proofs.Refused.{First, here, later, is-passed, is-first, open_lines, passed-line}
 use Rattle.text_feed.specs.Keep.{leading}
 use Rattle.text_feed.proofs.Keep.{leading-outside}
@@ -94,22 +95,14 @@ outside-few s k h e =
     (λ t. omega (arith, some_same (rw t at q), ltb-true (leading s) (length s) t, h))
     (λ t. none-some (rw t at q))
 
--- a refusal's number, by the refusal
-pub packed-unread : (n p : ℕ) → n ≡ 12 → 8 * p + 3 ≡ pack_refusal n p
-unfolding pack_refusal
-packed-unread n p e = rw (e, pack_refusal) refl
-
-pub packed-other : (n p : ℕ) → (n ≡ 12 → ⊥) → 8 * (32 * p + n) + 4 ≡ pack_refusal n p
-unfolding pack_refusal
-packed-other n p e = rw (ne_eqb n 12 e, pack_refusal) refl
-
+-- a refusal's number
 small-refusal : (n p : ℕ) → n < 32 → p ≤ most_values → pack_refusal n p < 2 ^ 64
 unfolding pack_refusal
 small-refusal n p a b = on-flag (eqb n 12) (λ e. rw (e, pack_refusal) (omega arith)) (λ e. rw (e, pack_refusal) (omega arith))
 
 -- ---- answers
 
-small-complete : (m : ℕ) → m ≤ most_values → pack (complete m) < 2 ^ 64
+small-complete : (m : ℕ) → m ≤ most_values → pack (Ok (complete m)) < 2 ^ 64
 unfolding complete pack
 small-complete zero h = omega arith
 small-complete (suc m) h = omega arith
@@ -142,11 +135,11 @@ module _ (c : AuditCall) where
   unfolding All audit_table
   lines h = (long-line, (value_line h, (formed-line, (fewer-line, (more-line, tt)))))
 
-  small-audited : first_bad_row c.index ≡ None → pack (audited c) < 2 ^ 64
+  small-audited : first_bad_row c.index ≡ None → pack (Ok (audited c)) < 2 ^ 64
   unfolding audited pack
   small-audited h = by _ refl
     where
-      by : (o : Option (ℕ × ℕ)) → first_wrong c.index c.series ≡ o → pack (audited c) < 2 ^ 64
+      by : (o : Option (ℕ × ℕ)) → first_wrong c.index c.series ≡ o → pack (Ok (audited c)) < 2 ^ 64
       by None e =
           let g = well-formed c.index h in
           rw (e, audited) (small-complete _ (omega (arith, missing-are c.index c.series g e, g.head.windows.most)))
@@ -159,7 +152,7 @@ module _ (c : AuditCall) where
 -- ---- the number
 
 module _ (x s : List ℕ) (few : length x < 2 ^ 63) where
-  by-line : (p : ℕ) → audit_text_answer x s ≡ Audited.Refused 12 p → p * 8 ≤ length x + 16 → pack (audit_text_answer x s) < 2 ^ 64
+  by-line : (p : ℕ) → audit_text_answer x s ≡ Err (refusal (12, p)) → p * 8 ≤ length x + 16 → pack (audit_text_answer x s) < 2 ^ 64
   unfolding pack pack_refusal
   by-line p e h = rw e (omega (arith, h, few))
 

@@ -1,16 +1,17 @@
 -- The audit of two texts by what they come to: the index text cannot be read (`index-unread`); the series line cannot (`line-unread`); both can (`both_read`).
+use Rattle.std.specs.Prelude.{Ok, Err}
 use Rattle.meaning_numbers.proofs.Prelude.{◌≡◌, refl, sym, ap, ◌∙◌, Bool, true, false, List, ◌++◌, map, Option, None, Some, ℕ, ◌+◌, ◌≤◌, arith, ℤ, pos, length, take, drop, replicate, length-replicate, length-map, sets-eq, take-append_seam}
 use Rattle.meaning_curves.specs.Limits.{most_values, most_program_values, length_in}
 use Rattle.meaning_rows.proofs.Judge.{between, is_within}
 use Rattle.meaning_text.specs.{Form.Value, Bytes.newlines, Read.fine, Read.unfit, Read.read_text, Read.line_of, Texts.index_form, Texts.series_form}
-use Rattle.meaning_entries.specs.{declared.Audited.Audited, Refusal.first_refusal, Refusal.bad_line, Refusal.unreadable, Refusal.length_outside, Audit.AuditCall, Audit.audit_table, Audit.audited, Audit.audit_answer, Load.text_index, AuditText.text_series, AuditText.audit_text_table, AuditText.audit_text_answer}
+use Rattle.meaning_entries.specs.{Answers.refusal, Refusal.first_refusal, Refusal.bad_line, Refusal.unreadable, Refusal.length_outside, Audit.AuditCall, Audit.audit_table, Audit.audited, Audit.audit_answer, Load.text_index, AuditText.text_series, AuditText.audit_text_table, AuditText.audit_text_answer}
 use Rattle.numbers.specs.Narrow.{clamp}
 use Rattle.text_feed.specs.Keep.{stored}
 use Rattle.payout.specs.Counted.{counted_answer}
 use Rattle.payout.proofs.Clamped.{clamped-answer}
 
 module _ (x s : List ℕ) where
-  pub refused-by : (p : ℕ × ℕ) → first_refusal (audit_text_table x s) ≡ Some p → audit_text_answer x s ≡ Audited.Refused p.0 p.1
+  pub refused-by : (p : ℕ × ℕ) → first_refusal (audit_text_table x s) ≡ Some p → audit_text_answer x s ≡ Err (refusal p)
   unfolding audit_text_answer
   refused-by p e = rw (e, audit_text_answer) refl
 
@@ -18,7 +19,7 @@ module _ (x s : List ℕ) where
   unfolding audit_text_table first_refusal unreadable bad_line
   index-first q e = let z : 0 + line_of x q ≡ line_of x q = omega arith in rw (e, bad_line, z) refl
 
-  pub index-unread : (q : ℕ) → read_text index_form x ≡ unfit q → audit_text_answer x s ≡ Audited.Refused 12 (line_of x q)
+  pub index-unread : (q : ℕ) → read_text index_form x ≡ unfit q → audit_text_answer x s ≡ Err (refusal (12, line_of x q))
   index-unread q e = refused-by (12, line_of x q) (index-first q e)
 
   module _ (v : Value index_form) (readable : read_text index_form x ≡ fine v) where
@@ -26,7 +27,7 @@ module _ (x s : List ℕ) where
     unfolding audit_text_table first_refusal unreadable bad_line
     line_first q e = rw (readable, bad_line, e) refl
 
-    pub line-unread : (q : ℕ) → read_text series_form s ≡ unfit q → audit_text_answer x s ≡ Audited.Refused 12 (newlines x + line_of s q)
+    pub line-unread : (q : ℕ) → read_text series_form s ≡ unfit q → audit_text_answer x s ≡ Err (refusal (12, newlines x + line_of s q))
     line-unread q e = refused-by (12, newlines x + line_of s q) (line_first q e)
 
     module _ (w : List ℤ) (read : read_text series_form s ≡ fine w) where
@@ -45,7 +46,7 @@ module _ (x s : List ℕ) where
       unfolding first_refusal audit_table length_outside
       outside e = rw e refl
 
-      pub none-refuses : first_refusal (audit_text_table x s) ≡ None → audit_text_answer x s ≡ audited call
+      pub none-refuses : first_refusal (audit_text_table x s) ≡ None → audit_text_answer x s ≡ Ok (audited call)
       unfolding audit_text_answer
       none-refuses e = rw (e, audit_text_answer, series-is) refl
 

@@ -4,14 +4,15 @@ use lib.IntN.{ℤ, pos}
 use mathlib.Core.List.{List, [], ◌∷◌}
 use mathlib.Core.Path.{◌≡◌, refl, sym, ap, ◌∙◌}
 use native.Mathlib.Omega.{arith}
+use Rattle.std.proofs.Common.{Result, Ok, Err}
 use Rattle.meaning_text.specs.{Read.fine, Read.unfit, Read.read_text, Texts.series_form}
 use Rattle.meaning_text.proofs.Automaton.{Fed, going, failed, feed, at_end, judged}
 use Rattle.text_lines.specs.declared.State.{State}
 use Rattle.text_lines.specs.Follow.{Said, nothing_said, Reading, step, series_start, series_value}
 use Rattle.text_lines.proofs.Follow.{accept_state, accept, series-good, series-comes}
-use Rattle.text_feed.specs.{declared.Progress.Progress, declared.Feeding.Feeding, Keep.stored, Keep.Holds, Feed.Ready, Feed.Shows, Feed.Comes}
+use Rattle.text_feed.specs.{declared.Progress.Progress, Keep.stored, Keep.Holds, Feed.Ready, Feed.Shows, Feed.Comes}
 use Rattle.text_feed.proofs.Keep.{kept-none}
-use Rattle.payout_line.specs.{declared.Line.Line, Line.start_line, Line.line_end, Line.line_read, Line.Stored}
+use Rattle.payout_line.specs.{Line.start_line, Line.line_end, Line.line_read, Line.Stored}
 
 -- the single numbers before anything is said
 abbrev pub no_numbers : List ℤ
@@ -31,18 +32,18 @@ unfit-fine q = let z : ◌≡◌ {A = ℕ} 0 1 = cc in absurd (omega arith)
 
 module _ (t : List ℕ) (before after query numbers' query' : List ℤ) where
   -- what is promised of a line
-  abbrev pub Read : Line → Type 0
+  abbrev pub Read : Result ℕ ℕ → Type 0
   Read r = (r ≡ line_read (read_text series_form t)) × Stored t before after
 
-  unread : (n : ℕ) → read_text series_form t ≡ unfit n → (m : ℕ) → m ≡ n → Read (Line.Bad m)
+  unread : (n : ℕ) → read_text series_form t ≡ unfit n → (m : ℕ) → m ≡ n → Read (Err m)
   unfolding Stored
-  unread n r m e = (ap Line.Bad e ∙ sym (ap line_read r), λ v q. unfit-fine (sym r ∙ q))
+  unread n r m e = (ap Err e ∙ sym (ap line_read r), λ v q. unfit-fine (sym r ∙ q))
 
-  pub line-failed : (n : ℕ) → Comes start_line nothing_said before query t no_numbers before query (Feeding.Failed n) numbers' after query' → Read (Line.Bad n)
+  pub line-failed : (n : ℕ) → Comes start_line nothing_said before query t no_numbers before query (Err n) numbers' after query' → Read (Err n)
   unfolding Comes
   line-failed n c = by (feed step (going series_start 0) t) refl (c (holds-none before query))
     where
-      by : (f : Fed Reading) → feed step (going series_start 0) t ≡ f → Shows before query (Feeding.Failed n) f numbers' after query' → Read (Line.Bad n)
+      by : (f : Fed Reading) → feed step (going series_start 0) t ≡ f → Shows before query (Err n) f numbers' after query' → Read (Err n)
       by (going x p) e s = absurd s
       by (failed m) e s = unread m (series-comes t ∙ ap (judged (accept series_value)) e) n s
 
@@ -51,12 +52,12 @@ module _ (t : List ℕ) (before after query numbers' query' : List ℤ) where
   ends p (State.In w k) g n e a h r = rw e (unread n r p.at a)
   ends p (State.At q k) g n e a h r = rw e (unread n r p.at a)
   ends p (State.Before b) g n e a h r = rw e (unread n r p.at a)
-  ends p State.Done g n e a h r = rw e (ap Line.Fine h.first.count ∙ sym (ap line_read r), λ v q. h.first.lies ∙ ap (stored before) (fine-same (sym r ∙ q)))
+  ends p State.Done g n e a h r = rw e (ap Ok h.first.count ∙ sym (ap line_read r), λ v q. h.first.lies ∙ ap (stored before) (fine-same (sym r ∙ q)))
 
-  pub line-going : (p : Progress) → Comes start_line nothing_said before query t no_numbers before query (Feeding.Going p) numbers' after query' → Read (line_end p.state p.at p.series.count)
+  pub line-going : (p : Progress) → Comes start_line nothing_said before query t no_numbers before query (Ok p) numbers' after query' → Read (line_end p.state p.at p.series.count)
   unfolding Comes accept
   line-going p c = by (feed step (going series_start 0) t) refl (c (holds-none before query))
     where
-      by : (f : Fed Reading) → feed step (going series_start 0) t ≡ f → Shows before query (Feeding.Going p) f numbers' after query' → Read (line_end p.state p.at p.series.count)
+      by : (f : Fed Reading) → feed step (going series_start 0) t ≡ f → Shows before query (Ok p) f numbers' after query' → Read (line_end p.state p.at p.series.count)
       by (going x n) e s = ends p x.state x.said n s.0 s.1 s.2 (series-comes t ∙ ap (judged (accept series_value)) e)
       by (failed m) e s = absurd s

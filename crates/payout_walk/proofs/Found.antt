@@ -8,11 +8,11 @@ use Rattle.meaning_rows.proofs.{Runs.Apart, Judge.GoodRow, Judge.WellFormed, Jud
 use Rattle.meaning_text.specs.{Form.Value, Texts.index_form, Texts.row_form, Texts.row_said, Texts.index_said}
 use Rattle.numbers.specs.Narrow.{clamp, held}
 use Rattle.rows_records.specs.Records.{zero_row}
-use Rattle.entry_audit.specs.{declared.RowsAudited.RowsAudited, Auditing.found, Auditing.wrong_of, Auditing.chunked}
+use Rattle.entry_audit.specs.Auditing.{wrong_of}
 use Rattle.entry_audit.proofs.Chunks.{or_else}
 use Rattle.text_judge.specs.Tally.{no_rows, rows_from, head_held}
 use Rattle.text_judge.proofs.{Bad.held-nat, Bad.HeadIs, Bad.head-is, Bad.text-bad, Prefix.row-placed}
-use Rattle.payout_walk.specs.Walk.{goes_on, one_run, after_run, runs_walked, rows_walked}
+use Rattle.payout_walk.specs.Walk.{one_run, after_run, runs_walked, rows_walked}
 
 -- ---- one after the other
 
@@ -60,16 +60,10 @@ module _ (series : List ℤ) (h : Head) where
   unfolding wrong_from one_run offsets entries
   one-wrong low up l r k = rw (zeros-right _ _ 63 (suc k), append-nil _) refl
 
-  found-go : (o : Option (ℕ × ℕ)) (w : Option (ℕ × ℕ)) → cond (found o).go (found w) (found o) ≡ found (or_else o w)
-  unfolding found or_else
-  found-go None w = refl
-  found-go (Some p) w = refl
-
   run-found : (k : ℕ) (low up : ℤ) (o : Option (ℕ × ℕ)) (l r : ℕ) → l ≤ r → r + h.window ≤ length series
-      → after_run series h (record { low = low; up = up; left = l; rows = k; found = found o }) r ≡ found (or_else o (wrong_in sum k (ranged low up) (numbers_from l (r + 1 - l)) None))
-  unfolding after_run chunked
-  run-found k low up o l r a b =
-      rw (le-leb l r a, le-leb _ _ b, one-wrong low up l r k) (found-go o _)
+      → after_run series h (record { low = low; up = up; left = l; rows = k; found = o }) r ≡ or_else o (wrong_in sum k (ranged low up) (numbers_from l (r + 1 - l)) None)
+  unfolding after_run
+  run-found k low up o l r a b = rw (le-leb l r a, le-leb _ _ b, one-wrong low up l r k) refl
 
   -- ---- the runs of a row
 
@@ -77,18 +71,18 @@ module _ (series : List ℤ) (h : Head) where
   held-pos W n a b = held-nat (pos n) refl (omega arith)
 
   run-held : (W k : ℕ) (low up : ℤ) (o : Option (ℕ × ℕ)) (l r : ℕ) → W ≤ 4294967295 → W + h.window ≤ length series + 1 → l ≤ r → r < W
-      → after_run series h (record { low = low; up = up; left = held (pos l); rows = k; found = found o }) (held (pos r)) ≡ found (or_else o (wrong_in sum k (ranged low up) (numbers_from l (r + 1 - l)) None))
+      → after_run series h (record { low = low; up = up; left = held (pos l); rows = k; found = o }) (held (pos r)) ≡ or_else o (wrong_in sum k (ranged low up) (numbers_from l (r + 1 - l)) None)
   run-held W k low up o l r m s a b = rw (held-pos W l (omega arith) m, held-pos W r b m) (run-found k low up o l r a (omega arith))
 
   runs-found : (W a k : ℕ) (low up : ℤ) (o : Option (ℕ × ℕ)) (l : List (ℕ × ℕ)) → W ≤ 4294967295 → W + h.window ≤ length series + 1 → Apart W a l
-      → runs_walked series h k low up (found o) (map entry l) ≡ found (or_else o (wrong_in sum k (ranged low up) (offsets (map entry l)) None))
+      → runs_walked series h k low up o (map entry l) ≡ or_else o (wrong_in sum k (ranged low up) (offsets (map entry l)) None)
   unfolding runs_walked Apart offsets wrong_in
-  runs-found W a k low up o [] m s p = ap found (sym (else-none o))
+  runs-found W a k low up o [] m s p = sym (else-none o)
   runs-found W a k low up o (x ∷ l) m s p =
-      ap (λ (u : RowsAudited). runs_walked series h k low up u (map entry l)) (run-held W k low up o x.0 x.1 m s p.1 p.2)
+      ap (λ (u : Option (ℕ × ℕ)). runs_walked series h k low up u (map entry l)) (run-held W k low up o x.0 x.1 m s p.1 p.2)
       ∙ runs-found W (x.1 + 2) k low up _ l m s p.3
-      ∙ ap found (else-assoc o (wrong_in sum k (ranged low up) (numbers_from x.0 _) None) _
-      ∙ ap (or_else o) (sym (wrong-append sum k (ranged low up) (numbers_from x.0 _) (offsets (map entry l)) None)))
+      ∙ else-assoc o (wrong_in sum k (ranged low up) (numbers_from x.0 _) None) _
+      ∙ ap (or_else o) (sym (wrong-append sum k (ranged low up) (numbers_from x.0 _) (offsets (map entry l)) None))
 
 -- ---- the rows
 
@@ -117,7 +111,7 @@ module _ (series : List ℤ) (v : Value index_form) (head : head_good (lent (hea
   row-found : (a : List (Value row_form)) (r : Value row_form) (b : List (Value row_form)) (f k : ℕ) (o : Option (ℕ × ℕ)) → v.1.1.1 ≡ a ++ (r ∷ b)
       → let row : Row = record { low = r.0; up = r.1.0; first = f; runs = length r.1.1 } in
       GoodRow X row → runs_of X row ≡ r.1.1
-      → runs_walked series h k (clamp r.0) (clamp r.1.0) (found o) r.1.1 ≡ found (or_else o (wrong_in (window_sum series h.window) k row (offsets (runs_of X row)) None))
+      → runs_walked series h k (clamp r.0) (clamp r.1.0) o r.1.1 ≡ or_else o (wrong_in (window_sum series h.window) k row (offsets (runs_of X row)) None)
   row-found a r b f k o e g s =
       let row : Row = record { low = r.0; up = r.1.0; first = f; runs = length r.1.1 } in
       let p = row-placed v head good a r b e in
@@ -127,20 +121,20 @@ module _ (series : List ℤ) (v : Value index_form) (head : head_good (lent (hea
       let t : offsets (runs_of X row) ≡ offsets (map entry m) = ap offsets g.good.is in
       rw (p.low, p.up, t, n)
       (runs-found series h h.windows 0 k r.0 r.1.0 o m (omega (arith, i.most)) (omega (arith, fits)) (subst (λ (c : ℕ). Apart c 0 m) windows g.good.apart)
-      ∙ ap (λ (q : Option (ℕ × ℕ)). found (or_else o q)) (same-range w k r.0 r.1.0 0 1 f (length (map entry m)) (offsets (map entry m)) None))
+      ∙ ap (or_else o) (same-range w k r.0 r.1.0 0 1 f (length (map entry m)) (offsets (map entry m)) None))
 
   rows-from : (a l : List (Value row_form)) (f k : ℕ) (o : Option (ℕ × ℕ)) → v.1.1.1 ≡ a ++ l → Lays X.runs f (map row_said l) → All (GoodRow X) (records f (map row_said l))
-      → rows_walked series h k (found o) l ≡ found (or_else o (wrong_from X (window_sum series h.window) k (records f (map row_said l))))
+      → rows_walked series h k o l ≡ or_else o (wrong_from X (window_sum series h.window) k (records f (map row_said l)))
   unfolding rows_walked records wrong_from Lays All
-  rows-from a [] f k o e s g = ap found (sym (else-none o))
+  rows-from a [] f k o e s g = sym (else-none o)
   rows-from a (r ∷ l) f k o e s g =
       let row : Row = record { low = r.0; up = r.1.0; first = f; runs = length r.1.1 } in
       let w = window_sum series _ in
       let q = wrong_in w k row _ None in
       let later = wrong_from X w (suc k) (records _ (map row_said l)) in
-      ap (λ (u : RowsAudited). rows_walked series h (suc k) u l) (row-found a r l f k o e g.0 s.1)
+      ap (λ (u : Option (ℕ × ℕ)). rows_walked series h (suc k) u l) (row-found a r l f k o e g.0 s.1)
       ∙ rows-from (a ++ (r ∷ [])) l _ (suc k) (or_else o q) (e ∙ sym (append_assoc a _ l)) s.2 g.1
-      ∙ ap found (else-assoc o q later ∙ ap (or_else o) (sym (wrong-else w k row (offsets (runs_of X row)) later)))
+      ∙ else-assoc o q later ∙ ap (or_else o) (sym (wrong-else w k row (offsets (runs_of X row)) later))
 
   rows_are : X.rows ≡ records 0 (map row_said v.1.1.1)
   unfolding index_said
@@ -151,8 +145,8 @@ module _ (series : List ℤ) (v : Value index_form) (head : head_good (lent (hea
   runs-lay = laid _
 
   -- what is filed wrongly first
-  pub rows-found : rows_walked series h 0 goes_on v.1.1.1 ≡ found (first_wrong X series)
-  unfolding first_wrong found or_else
+  pub rows-found : rows_walked series h 0 None v.1.1.1 ≡ first_wrong X series
+  unfolding first_wrong or_else
   rows-found =
       rows-from [] v.1.1.1 0 0 None refl runs-lay (subst (All _) rows_are (each_row X formed))
-      ∙ ap found (ap (wrong_from X _ 0) (sym rows_are) ∙ ap (λ (c : ℕ). wrong_from X (window_sum series c) 0 X.rows) (sym window))
+      ∙ ap (wrong_from X _ 0) (sym rows_are) ∙ ap (λ (c : ℕ). wrong_from X (window_sum series c) 0 X.rows) (sym window)

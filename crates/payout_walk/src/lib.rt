@@ -4,19 +4,19 @@
 ghost use Rattle.std.specs.Prelude.{◌≡◌, ◌&&◌, ◌+◌, ◌<◌, ◌^◌, leb};
 ghost use Rattle.payout_walk.specs.Walk.{Sized, start_walk, after_run, tell_walk, shut_walk, Walked};
 
-use entry_audit::{RowsAudited, audit_chunk};
+use entry_audit::audit_chunk;
 use meaning_rows::{Head, Row};
 use numbers::{hold, narrow};
 use text_index::{Field, Moved, State, Word, index_step};
 
-// What is known of a text so far: the range of the row that is open, the left end of the run that is open, how many rows are closed, and what is filed wrongly first.
+// What is known of a text so far: the range of the row that is open, the left end of the run that is open, how many rows are closed, and the first row and offset filed wrongly.
 #[derive(Clone, Copy)]
 pub struct Walk {
     pub low: i32,
     pub up: i32,
     pub left: u32,
     pub rows: usize,
-    pub found: RowsAudited,
+    pub found: Option<(usize, usize)>,
 }
 
 pub fn no_walk() -> Walk
@@ -27,11 +27,7 @@ pub fn no_walk() -> Walk
         up: 0,
         left: 0,
         rows: 0,
-        found: RowsAudited {
-            go: true,
-            row: 0,
-            offset: 0,
-        },
+        found: None,
     }
 }
 
@@ -43,16 +39,18 @@ fn run_reads(l: usize, r: usize, w: usize, n: usize) -> bool
     (l <= r) & (r + w <= n)
 }
 
-// What is filed wrongly first, after the run that ends at r.
-pub fn audit_run(series: &[i32], head: Head, t: Walk, r: u32) -> RowsAudited
+// The first row and offset filed wrongly, after the run that ends at r.
+pub fn audit_run(series: &[i32], head: Head, t: Walk, r: u32) -> Option<(usize, usize)>
     requires sized { Sized series.now head }
     requires rows_bound { t.rows < 2 ^ 63 }
     ensures { result ≡ after_run series.now head t r }
 {
-    let found = t.found;
+    if t.found.is_some() {
+        return t.found;
+    }
     let l = t.left;
     if !run_reads(l as usize, r as usize, head.window as usize, series.len()) {
-        return found;
+        return None;
     }
     let mut chunk = [Row {
         low: 0,
@@ -66,48 +64,26 @@ pub fn audit_run(series: &[i32], head: Head, t: Walk, r: u32) -> RowsAudited
         first: 0,
         runs: 1,
     };
-    let left = [l; 1];
-    let right = [r; 1];
-    audit_chunk(chunk, t.rows, found, series, head, &left, &right)
+    audit_chunk(chunk, t.rows, series, head, &[l], &[r])
 }
 
 // What a number says.
+#[tactic(auto, unfolding(crate::specs::Walk::tell_walk))]
 pub fn tell(series: &[i32], head: Head, t: Walk, p: Field, z: i64) -> Walk
     requires { Sized series.now head × (t.rows < 2 ^ 63) }
     ensures { result ≡ tell_walk series.now head p z t }
 {
-    let found = t.found;
     match p {
-        Field::Window => t,
-        Field::Width => t,
-        Field::Windows => t,
+        Field::Window | Field::Width | Field::Windows => t,
         Field::Low => Walk {
             low: narrow(z),
-            up: t.up,
-            left: t.left,
-            rows: t.rows,
-            found,
+            ..t
         },
-        Field::Up => Walk {
-            low: t.low,
-            up: narrow(z),
-            left: t.left,
-            rows: t.rows,
-            found,
-        },
-        Field::Left => Walk {
-            low: t.low,
-            up: t.up,
-            left: hold(z),
-            rows: t.rows,
-            found,
-        },
+        Field::Up => Walk { up: narrow(z), ..t },
+        Field::Left => Walk { left: hold(z), ..t },
         Field::Right => Walk {
-            low: t.low,
-            up: t.up,
-            left: t.left,
-            rows: t.rows,
             found: audit_run(series, head, t, hold(z)),
+            ..t
         },
     }
 }
@@ -118,46 +94,34 @@ pub fn shut(t: Walk) -> Walk
     requires { t.rows < 2 ^ 63 }
     ensures { result ≡ shut_walk t }
 {
-    let found = t.found;
     Walk {
-        low: t.low,
-        up: t.up,
-        left: t.left,
         rows: t.rows + 1,
-        found,
+        ..t
     }
 }
 
 // The rows of a whole text.
-pub fn walk_rows(text: &[u8], series: &[i32], head: Head) -> RowsAudited
+pub fn walk_rows(text: &[u8], series: &[i32], head: Head) -> Option<(usize, usize)>
     requires { Sized series.now head }
     ensures { Walked series.now head text.now result }
 {
     let mut s = State::In(Word::Window, 0);
     let mut t = no_walk();
-    let mut i = 0;
-    while i < text.len() {
-        match index_step(s, text[i]) {
-            Moved::To(n) => {
-                s = n;
-                i += 1;
-            }
+    for &b in text {
+        match index_step(s, b) {
+            Moved::To(n) => s = n,
             Moved::Value(n, p, z) => {
                 s = n;
                 t = tell(series, head, t, p, z);
-                i += 1;
-                if !t.found.go {
+                if t.found.is_some() {
                     return t.found;
                 }
             }
             Moved::Closed(n) => {
                 s = n;
                 t = shut(t);
-                i += 1;
             }
-            Moved::Refuse => {
-                return t.found;
-            }
+            Moved::Refuse => return t.found,
         }
     }
     t.found

@@ -1,4 +1,5 @@
 -- Laws of specs/Print.
+use Rattle.std.specs.Prelude.{Ok, Err}
 use Rattle.meaning_numbers.proofs.Prelude.{◌≡◌, refl, sym, ap, ◌∙◌, List, [], ◌∷◌, ◌++◌, map, None, ℕ, ◌+◌, ◌-◌, ◌<◌, ◌≤◌, ◌^◌, min, arith, ℤ, pos, nat_abs, ◌-ℤ◌, length, take, drop, replicate, length-append, length-map, length-replicate, take-append_seam, ◌≤ℤ◌, le-ltb, zarith, z-add, z-sub}
 use Rattle.meaning_numbers.proofs.{Count.count-le, Between.yes-within}
 use Rattle.meaning_curves.specs.{Limits.most_values, Limits.most_program_values, Curve.window_count, Curve.window_sum}
@@ -12,7 +13,7 @@ use Rattle.meaning_entries.specs.Buffers.{IndexBuffers, filled, lefts, rights, i
 use Rattle.meaning_entries.specs.Build.{BuildCall, lent_build, width_lines, build_table, build_refusal, build_index, build_answer, build_after}
 use Rattle.meaning_entries.specs.Refusal.{Condition, flat_query, ill_formed, windows_of, buffer_short, pick_outside, series_lines}
 use Rattle.meaning_entries.specs.Search.{SearchCall, SearchBuffers, lent_ask, lent_search, value_lines, limit_lines, search_plan, search_table, search_refusal, search_matches, search_handed, search_candidates, question}
-use Rattle.meaning_entries.specs.{declared.Built.Built, declared.Found.Found, Answers.head_of, Write.write_table, Write.write_refusal, Program.call_lines, Program.program_index, Program.printed, Demand2.BuildKept, Demand2.SearchKept}
+use Rattle.meaning_entries.specs.{declared.Found.Found, Answers.Built, Answers.SearchAnswer, Answers.held, Answers.head_of, Write.write_table, Write.write_refusal, Program.call_lines, Program.program_index, Program.printed, Demand2.BuildKept, Demand2.SearchKept}
 use Rattle.meaning_entries.proofs.Lines.{long-line, window-line, query-line, threshold-line, scale-line, series-passes, more-passes, room-passes}
 use Rattle.meaning_entries.proofs.Refused.{AllPass, end, more, passed_is, passed-both, passed-join, open_lines, passed-line, passed-behind}
 use Rattle.meaning_entries.proofs.{Made.build-passes, Made.build-most, Listed.listed-is, BothTold.all_told}
@@ -112,7 +113,7 @@ module _ (s q : List ℤ) (a : Asked) (free : AllPass (call_lines (call_of s q a
 
     -- what is built, as the code has it
     pub record Stands (answer : Built) (rows' : List Row) (left' right' : List ℕ) : Type 0 where
-      pub answered : answer ≡ Built.Index (head_of x) (length x.rows) (length x.runs)
+      pub answered : answer ≡ Ok (held (head_of x) (length x.rows) (length x.runs))
       pub table : take (length x.rows) rows' ≡ x.rows
       pub first : take (length x.runs) left' ≡ lefts x.runs
       pub last : take (length x.runs) right' ≡ rights x.runs
@@ -217,10 +218,10 @@ module _ (s q : List ℤ) (a : Asked) (free : AllPass (call_lines (call_of s q a
 
 -- ---- the list behind the index text
 
-pub list_put : (d : SearchCall) (before after : SearchBuffers) (t : Found) (text : List ℕ) (at : ℕ) (new : List ℕ) (to : ℕ) → d.ask.pick ≡ Pick.All → SearchKept d before t after → search_refusal d before ≡ None → FoundPut t text at after.offsets after.distances new to
+pub list_put : (d : SearchCall) (before after : SearchBuffers) (t : SearchAnswer) (text : List ℕ) (at : ℕ) (new : List ℕ) (to : ℕ) → d.ask.pick ≡ Pick.All → SearchKept d before t after → search_refusal d before ≡ None → FoundPut t text at after.offsets after.distances new to
     → Put text at (found_text (length (search_matches d)) (search_candidates d) (search_matches d)) new to
 list_put d before after t text at new to picks h e p =
-    let k : t ≡ Found.All (search_candidates d) (length (search_matches d)) = h.answered ∙ all_told d before picks e in
+    let k : t ≡ Ok (Found.All (search_candidates d) (length (search_matches d))) = h.answered ∙ all_told d before picks e in
     let g = rw k at h in
     rw (listed-is d before after g) at (rw k at p)
 

@@ -1,11 +1,12 @@
 -- The index and the list in the text buffer, where nothing refuses the program (`prints`).
 use Rattle.meaning_numbers.proofs.Between.{within-yes}
+use Rattle.std.specs.Prelude.{Ok, Err}
 use Rattle.meaning_numbers.proofs.Prelude.{◌≡◌, sym, ◌∙◌, subst, not, ◌||◌, List, ℕ, ◌≤◌, arith, ℤ, pos, length, take, lt_z, zarith, not-not, neither}
 use Rattle.meaning_curves.specs.Limits.{window_in}
 use Rattle.meaning_rows.specs.{declared.Row.Row, declared.Head.Head, Index.Index, Index.lent}
 use Rattle.meaning_filter.specs.declared.Pick.{Pick}
 use Rattle.meaning_text.specs.Texts.{index_text, found_text}
-use Rattle.meaning_entries.specs.{declared.Built.Built, declared.Written.Written, Answers.head_of, Answers.written_count, Build.lent_build, Write.write_count, Write.write_after, Search.SearchCall, Search.lent_search, Search.search_matches, Search.search_candidates, Program.call_lines, Program.printed, Demand2.BuildKept, Demand2.WriteKept, Buffers.index_buffers}
+use Rattle.meaning_entries.specs.{Answers.Built, Answers.Written, Answers.held, declared.Refusal.Refusal, Answers.head_of, Answers.written_count, Build.lent_build, Write.write_count, Write.write_after, Search.SearchCall, Search.lent_search, Search.search_matches, Search.search_candidates, Program.call_lines, Program.printed, Demand2.BuildKept, Demand2.WriteKept, Buffers.index_buffers}
 use Rattle.meaning_entries.proofs.{Refused.AllPass, Refused.open_lines, Refused.passed-line, Refused.not-if, Made.build-most}
 use Rattle.program_input.specs.{declared.Asked.Asked, Tables.call_of}
 use Rattle.program_answer.specs.Finish.{Listed, Prints}
@@ -24,15 +25,15 @@ module _ (s q : List ℤ) (a : Asked) (free : AllPass (call_lines (call_of s q a
 
   module _ (rows : List Row) (left right : List ℕ) (r : length rows ≡ 4096) (l : length left ≡ 4096) (k : length right ≡ 4096) (answer : Built) (rows' : List Row) (left' right' : List ℕ)
       (h : BuildKept (lent_build s a.window a.width a.merge) (index_buffers rows left right) answer (index_buffers rows' left' right')) where
-    answered : answer ≡ Built.Index (head_of y) (length y.rows) (length y.runs)
+    answered : answer ≡ Ok (held (head_of y) (length y.rows) (length y.runs))
     answered = (stands s q a free rows left right r l k h).answered
 
     -- its build was not refused
-    pub not-refused : {n p : ℕ} {B : Type 0} → answer ≡ Built.Refused n p → B
+    pub not-refused : {r : Refusal} {B : Type 0} → answer ≡ Err r → B
     not-refused e = let g = sym e ∙ answered in let z : ◌≡◌ {A = ℕ} 0 1 = cc in absurd (omega arith)
 
-    module _ {head : Head} {n m : ℕ} (e : answer ≡ Built.Index head n m) where
-      index_same : Built.Index head n m ≡ Built.Index (head_of y) (length y.rows) (length y.runs)
+    module _ {head : Head} {n m : ℕ} (e : answer ≡ Ok (held head n m)) where
+      index_same : ◌≡◌ {A = Built} (Ok (held head n m)) (Ok (held (head_of y) (length y.rows) (length y.runs)))
       index_same = sym e ∙ answered
 
       head-is : head ≡ head_of y

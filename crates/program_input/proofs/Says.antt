@@ -1,19 +1,20 @@
 -- What the table over what was kept says of the text (`end_is`), and what is asked where nothing refuses (`asked_is`).
+use Rattle.std.specs.Prelude.{Ok, Err}
 use Rattle.meaning_numbers.proofs.Prelude.{◌≡◌, refl, sym, ap, ◌∙◌, subst, Bool, true, false, cond, List, [], ◌∷◌, ◌++◌, map, None, Some, ℕ, ◌+◌, ◌≤◌, arith, ltb, ℤ, pos, negsuc, nat_abs, length, take, drop, sets-eq, length-sets, take-append_seam, ◌≤ℤ◌, ltb-false, zarith, z-sub, le-lt_z, by-test}
 use Rattle.meaning_curves.specs.Limits.{most_program_values, value_in, first_outside}
 use Rattle.meaning_curves.proofs.Values.{yes-value, none-outside}
 use Rattle.meaning_filter.specs.declared.Pick.{Pick}
 use Rattle.meaning_text.specs.{Read.read_text, Read.fine, Read.unfit, Read.line_of, Texts.program_form, Texts.kind_said}
 use Rattle.meaning_text.proofs.{Automaton.Fed, Automaton.going, Automaton.failed, Reading.on-flag}
-use Rattle.meaning_entries.specs.{Refusal.value_outside, Refusal.flat_query, Refusal.bad_line, Refusal.unreadable, Build.width_lines, Search.value_lines, Search.limit_lines, Program.ProgramCall, Program.program_said, Program.text_program, Program.call_lines, Program.program_table}
+use Rattle.meaning_entries.specs.{Answers.refusal, Refusal.value_outside, Refusal.flat_query, Refusal.bad_line, Refusal.unreadable, Build.width_lines, Search.value_lines, Search.limit_lines, Program.ProgramCall, Program.program_said, Program.text_program, Program.call_lines, Program.program_table}
 use Rattle.meaning_entries.proofs.Lines.{Natural, window-line, width-line, merge-line, band-line, threshold-line, scale-line}
 use Rattle.meaning_entries.proofs.Refused.{AllPass, same-behind, passed-both, open_lines, passed-line, passed-behind}
 use Rattle.numbers.specs.Narrow.{clamp}
-use Rattle.refusals.specs.Refusal.{refusal_of, as_refusal}
+use Rattle.refusals.specs.Refusal.{verdict_of, verdict}
 use Rattle.refusals.proofs.RefusalLaws.{place_is, place_none}
 use Rattle.text_lines.specs.{declared.State.State, Follow.Said, Follow.Reading, Follow.program_start, Follow.program_value}
 use Rattle.text_lines.proofs.Follow.{program-comes, accept_state}
-use Rattle.text_feed.specs.{declared.Values.Values, declared.Progress.Progress, declared.Feeding.Feeding, Keep.stored, Keep.leading, Keep.numbers_of, Keep.Kept, Keep.Holds, Feed.Shows}
+use Rattle.text_feed.specs.{declared.Values.Values, declared.Progress.Progress, Keep.stored, Keep.leading, Keep.numbers_of, Keep.Kept, Keep.Holds, Feed.Shows}
 use Rattle.text_feed.proofs.{Keep.leading-outside, Whole.text-short, Whole.program-failed, Whole.program-done}
 use Rattle.program_input.specs.Tables.{numbers_at, kind_of, first_out, values_table, numbers_table, call_table, is_done, end_table, SoundEnd, Upto, Limited, asked_of, call_of}
 use Rattle.program_input.specs.{declared.Input.Input, declared.Numbers.Numbers, Input.fed, Input.Stands, Input.Open}
@@ -83,18 +84,18 @@ module _ {kept asked : List ℤ} {g : Said} {numbers : List ℤ} {v q : Values} 
     query-is : AllPass (values_table v q) → AllPass (numbers_table v.count q.count (numbers_at numbers)) → take q.count query ≡ g.query
     query-is a b = all-kept h.second (query-in v q a) (omega (arith, query-few v.count q.count (numbers_at numbers) b, room))
 
-    pub call-is : refusal_of (call_table v q (numbers_at numbers) query) ≡ refusal_of (call_lines said)
+    pub call-is : verdict (call_table v q (numbers_at numbers) query) ≡ verdict (call_lines said)
     unfolding call_table call_lines program_said
     call-is =
         let two = numbers_table v.count q.count (numbers_at numbers) in
         let kept = flat_query (kind_of (numbers_at numbers).raw) (take q.count query) ∷ [] in
         let meant = flat_query (kind_said g.raw) g.query ∷ [] in
-        ap as_refusal (same-behind (values_table v q) (two ++ kept) (two ++ meant) (λ a. same-behind two kept meant (λ b. rw (query-is a b, raw-is))) ∙ rw (values-are, numbers-are))
+        ap verdict_of (same-behind (values_table v q) (two ++ kept) (two ++ meant) (λ a. same-behind two kept meant (λ b. rw (query-is a b, raw-is))) ∙ rw (values-are, numbers-are))
 
 -- ---- the text
 
 -- what was said, where the input goes on
-holds_of : (kept asked : List ℤ) (numbers series query : List ℤ) (p : Progress) (x : Fed Reading) → Shows kept asked (Feeding.Going p) x numbers series query → (g : Said) × Holds kept asked g numbers p.series p.query series query
+holds_of : (kept asked : List ℤ) (numbers series query : List ℤ) (p : Progress) (x : Fed Reading) → Shows kept asked (Ok p) x numbers series query → (g : Said) × Holds kept asked g numbers p.series p.query series query
 holds_of kept asked numbers series query p (going y n) s = (y.said, s.2)
 holds_of kept asked numbers series query p (failed n) s = absurd s
 
@@ -142,14 +143,14 @@ module _ (kept asked : List ℤ) (t : List ℕ) (r : Input) (numbers series quer
           )
 
   -- the table over what was kept refuses what the program's table refuses
-  pub end_is : 1024 ≤ length asked → refusal_of (end_table r numbers query) ≡ refusal_of (program_table t)
+  pub end_is : 1024 ≤ length asked → verdict (end_table r numbers query) ≡ verdict (program_table t)
   unfolding Stands end_table unreadable
   end_is room = by r s
     where
-      bad : (m line : ℕ) → read_text program_form t ≡ unfit m → line ≡ line_of t m → record { number = 12; place = line } ≡ refusal_of (program_table t)
-      bad m line e l = (λ i. record { number = 12; place = l i }) ∙ sym (place_is (unreadable program_form 0 t) (call_lines (text_program t)) (unread t m e)) ∙ ap refusal_of (sym (table_is t))
+      bad : (m line : ℕ) → read_text program_form t ≡ unfit m → line ≡ line_of t m → Err (refusal (12, line)) ≡ verdict (program_table t)
+      bad m line e l = ap (λ (k : ℕ). Err (refusal (12, k))) l ∙ sym (place_is (unreadable program_form 0 t) (call_lines (text_program t)) (unread t m e)) ∙ ap verdict (sym (table_is t))
 
-      by : (x : Input) → Stands kept asked t x numbers series query → refusal_of (end_table x numbers query) ≡ refusal_of (program_table t)
+      by : (x : Input) → Stands kept asked t x numbers series query → verdict (end_table x numbers query) ≡ verdict (program_table t)
       by (Input.Failed line) (m, (h, l)) = place_is (record { number = 12; place = Some line }) [] refl ∙ bad m line (program-failed kept asked t numbers series query m h) l
       by (Input.Going p line) (h, l) =
           by-test (is_done p.state)

@@ -1,10 +1,12 @@
 -- What the table over what was kept says of the text.
-use Rattle.meaning_numbers.proofs.Prelude.{◌≡◌, refl, sym, ap, ◌∙◌, true, false, not, None, List, [], ℕ, ◌+◌, ◌<◌, ◌≤◌, ◌^◌, T, arith, ℤ, pos, negsuc, w64, to_z, length, lt_z, le_z, lt_z-true, lt_z-false, z-cast, up, dn, by-test}
+use Rattle.std.specs.Prelude.{Err}
+use Rattle.std.specs.declared.result.Result.{Result}
+use Rattle.meaning_numbers.proofs.Prelude.{◌≡◌, refl, sym, ap, ◌∙◌, true, false, not, None, List, [], ℕ, ◌+◌, ◌<◌, ◌≤◌, ◌^◌, arith, ℤ, pos, negsuc, w64, to_z, length, lt_z, le_z, lt_z-true, lt_z-false, z-cast, up, dn, by-test}
 use Rattle.meaning_curves.specs.Limits.{most_program_values}
-use Rattle.meaning_entries.specs.Refusal.{Condition}
-use Rattle.meaning_entries.proofs.Refused.{AllPass, open_lines, passed-line, passed-behind, lacks}
+use Rattle.meaning_entries.specs.{declared.Refusal.Refusal, Answers.refusal, Refusal.Condition}
+use Rattle.meaning_entries.proofs.Refused.{AllPass, open_lines, passed-line, passed-behind}
 use Rattle.meaning_entries.proofs.Lines.{long-line, query-line}
-use Rattle.refusals.specs.{declared.Refusal.Refusal, Refusal.refusal_of}
+use Rattle.refusals.specs.Refusal.{verdict}
 use Rattle.refusals.proofs.RefusalLaws.{place_is, place_none}
 use Rattle.text_feed.specs.{declared.Values.Values, declared.Progress.Progress}
 use Rattle.text_feed.proofs.Keep.{gt-le_z, le-le_z}
@@ -25,14 +27,6 @@ cast_is n h = by _ (z-cast n h)
 
 -- ---- the end of the input, as the code goes
 
-pub values-lack : (v q : Values) → T (lacks 0 (values_table v q))
-unfolding open_lines lacks values_table
-values-lack v q = tt
-
-pub numbers-lack : (n m : ℕ) (x : Numbers) → T (lacks 0 (numbers_table n m x))
-unfolding open_lines lacks numbers_table
-numbers-lack n m x = tt
-
 -- what is known where values and numbers pass
 pub series-few : (v q : Values) → AllPass (values_table v q) → v.count ≤ 4096
 unfolding open_lines values_table
@@ -51,7 +45,7 @@ unfolding open_lines numbers_table
 query-few n m x h = (query-line m n (passed-line h 6)).0.most
 
 module _ {r : Input} (numbers query : List ℤ) where
-  pub end-failed : {line : ℕ} → r ≡ Input.Failed line → record { number = 12; place = line } ≡ refusal_of (end_table r numbers query)
+  pub end-failed : {line : ℕ} → r ≡ Input.Failed line → Err (refusal (12, line)) ≡ verdict (end_table r numbers query)
   unfolding end_table
   end-failed {line} e = rw (e, end_table) (sym (place_is _ [] refl))
 
@@ -59,11 +53,11 @@ module _ {r : Input} (numbers query : List ℤ) where
     abbrev rest : List Condition
     rest = call_table p.series p.query (numbers_at numbers) query
 
-    pub end_short : is_done p.state ≡ false → record { number = 12; place = line } ≡ refusal_of (end_table r numbers query)
+    pub end_short : is_done p.state ≡ false → Err (refusal (12, line)) ≡ verdict (end_table r numbers query)
     unfolding end_table
     end_short d = rw (e, end_table) (sym (place_is _ rest (rw d)))
 
-    pub end-done : {w : Refusal} → is_done p.state ≡ true → w ≡ refusal_of rest → w ≡ refusal_of (end_table r numbers query)
+    pub end-done : {w : Result (Unit {0}) Refusal} → is_done p.state ≡ true → w ≡ verdict rest → w ≡ verdict (end_table r numbers query)
     unfolding end_table
     end-done d f = f ∙ rw (e, end_table) (sym (place_none _ rest (rw d)))
 

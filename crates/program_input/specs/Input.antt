@@ -1,9 +1,9 @@
 -- Where the program's input stands after some pieces (`Stands`), and what a piece more does to it.
-use Rattle.std.specs.Prelude.{ℕ, ◌+◌, ◌≤◌, ℤ, length, List, ◌++◌, ◌≡◌}
+use Rattle.std.specs.Prelude.{ℕ, ◌+◌, ◌≤◌, ℤ, length, List, ◌++◌, ◌≡◌, Ok, Err}
 use Rattle.meaning_text.specs.Read.{line_of}
 use Rattle.meaning_text.proofs.Automaton.{Fed, going, feed}
 use Rattle.text_lines.specs.{declared.State.State, declared.Word.Word, Follow.Reading, Follow.step, Follow.program_start}
-use Rattle.text_feed.specs.{declared.Feeding.Feeding, Feed.Ready, Feed.Shows, Whole.no_values}
+use Rattle.text_feed.specs.{Feed.Ready, Feed.Shows, Whole.no_values}
 use Rattle.program_input.specs.declared.Input.{Input}
 
 -- what the automaton comes to
@@ -12,8 +12,8 @@ fed t = feed step (going program_start 0) t
 
 -- after the text t, where `kept` and `asked` were the buffers for values at first
 unfoldable pub Stands : List ℤ → List ℤ → List ℕ → Input → List ℤ → List ℤ → List ℤ → Type 0
-Stands kept asked t (Input.Going p line) numbers series query = Shows kept asked (Feeding.Going p) (fed t) numbers series query × (line ≡ line_of t (length t))
-Stands kept asked t (Input.Failed line) numbers series query = (m : ℕ) × (Shows kept asked (Feeding.Failed m) (fed t) numbers series query × (line ≡ line_of t m))
+Stands kept asked t (Input.Going p line) numbers series query = Shows kept asked (Ok p) (fed t) numbers series query × (line ≡ line_of t (length t))
+Stands kept asked t (Input.Failed line) numbers series query = (m : ℕ) × (Shows kept asked (Err m) (fed t) numbers series query × (line ≡ line_of t m))
 
 -- n bytes more can be read
 unfoldable pub Open : Input → ℕ → Type 0

@@ -1,12 +1,13 @@
 // What the search program knows of its input, read in pieces, and what refuses it at the end: a text that cannot be read, then build and search judged together as one call (01, 'Text and program').
 #![tactic(auto)]
 
-ghost use Rattle.std.specs.Prelude.{◌≡◌, not, ◌+◌, ◌-◌, ◌<◌, ◌≤◌, ◌^◌, pos, nat_abs, length, ◌≤ℤ◌};
+ghost use Rattle.std.specs.Prelude.{◌≡◌, [], ◌∷◌, not, ◌+◌, ◌-◌, ◌<◌, ◌≤◌, ◌^◌, pos, nat_abs, length, ◌≤ℤ◌};
 ghost use Rattle.std.specs.Int.Signed.{lt_z};
 ghost use Rattle.meaning_numbers.specs.Order.{within};
 ghost use Rattle.meaning_curves.specs.Limits.{band_in};
 ghost use Rattle.meaning_text.specs.Read.{line_of};
-ghost use Rattle.refusals.specs.Refusal.{refusal_of, refuse_at};
+ghost use Rattle.meaning_entries.specs.Refusal.{at_place};
+ghost use Rattle.refusals.specs.Refusal.{verdict};
 ghost use Rattle.program_input.specs.Input.{start, Open, ReadOn};
 ghost use Rattle.program_input.specs.Tables.{numbers_at, kind_of, first_out, values_table, numbers_table, call_table, end_table, asked_of, is_done, Sound, SoundEnd, Limited};
 
@@ -14,10 +15,10 @@ use meaning_curves::{
     GREATEST_MERGE, GREATEST_SCALE, GREATEST_SHIFT, GREATEST_THRESHOLD, LEAST_SCALE,
     LONGEST_WINDOW, MOST_PROGRAM_VALUES, WIDEST_ROW,
 };
+use meaning_entries::{Reason, Refusal};
 use meaning_filter::{Ask, Kind, Limits, Pick};
-use numbers::monus;
-use refusals::{Refusal, length_in, normal_flat, query_length_outside, refuse_if, unrefused};
-use text_feed::{Feeding, Progress, Values, feed};
+use refusals::{length_in, normal_flat, query_length_outside, refuse_if};
+use text_feed::{Progress, Values, feed};
 use text_lines::{State, Word};
 use text_reader::line_at;
 
@@ -36,7 +37,7 @@ const SCALE: i64 = GREATEST_SCALE as i64;
 
 const SHIFT: i64 = GREATEST_SHIFT as i64;
 
-// How far the input has been read, and the line that it stands in; or the line of its first bad byte.
+// How far the input has been read, and the line that it stands in; or the line of its first bad byte. A state that the next piece is read on from, and no outcome to take by `?`, so an enum of its own.
 #[derive(Clone, Copy)]
 pub enum Input {
     Going(Progress, usize),
@@ -66,8 +67,7 @@ fn line_in(line: usize, piece: &[u8], k: usize) -> usize
     requires { (1 ≤ line) × (line + length piece.now < 2 ^ 63 + 2) }
     ensures { result ≡ line - 1 + line_of piece.now k }
 {
-    let more = line_at(piece, k);
-    line - 1 + more
+    line - 1 + line_at(piece, k)
 }
 
 // Reads on: the piece that comes next.
@@ -82,20 +82,11 @@ pub fn read_piece(
     ensures { ReadOn piece.now r numbers.old series.old query.old result numbers.new series.new query.new }
 {
     match r {
-        Input::Failed(line) => Input::Failed(line),
-        Input::Going(p, line) => {
-            let at = p.at;
-            match feed(p, piece, numbers, series, query) {
-                Feeding::Going(n) => {
-                    let next = line_in(line, piece, piece.len());
-                    Input::Going(n, next)
-                }
-                Feeding::Failed(k) => {
-                    let bad = line_in(line, piece, monus(k, at));
-                    Input::Failed(bad)
-                }
-            }
-        }
+        Input::Failed(_) => r,
+        Input::Going(p, line) => match feed(p, piece, numbers, series, query) {
+            Ok(n) => Input::Going(n, line_in(line, piece, piece.len())),
+            Err(k) => Input::Failed(line_in(line, piece, k.saturating_sub(p.at))),
+        },
     }
 }
 
@@ -113,6 +104,7 @@ pub struct Numbers {
 }
 
 // The numbers at their places.
+#[tactic(auto, unfolding(crate::specs::Tables::numbers_at))]
 pub fn numbers_of(numbers: &[i64]) -> Numbers
     requires { 8 ≤ length numbers.now }
     ensures { result ≡ numbers_at numbers.now }
@@ -136,13 +128,11 @@ pub fn kind_of(raw: i64) -> Kind
 }
 
 // A number is below or above its limits.
+#[tactic(auto, unfolding(meaning_numbers::specs::Order::within))]
 fn outside(low: i64, high: i64, z: i64) -> bool
     ensures { result ≡ not (within low high z) }
 {
-    if z < low {
-        return true;
-    }
-    high < z
+    !((low <= z) & (z <= high))
 }
 
 // A number is above a count.
@@ -158,99 +148,83 @@ fn band_outside(m: usize, band: i64) -> bool
     requires { m < 2 ^ 63 }
     ensures { result ≡ not (band_in m band) }
 {
-    let most = m as i64 - 1;
-    outside(0, most, band)
+    outside(0, m as i64 - 1, band)
 }
 
-// The first value outside its limits, or else what comes after it.
-fn refuse_value(v: Values, after: Refusal) -> Refusal
-    ensures { result ≡ refuse_at 2 (first_out v) after }
+// Refused where a value is outside its limits, at the first.
+fn refuse_value(v: Values) -> Result<(), Refusal>
+    ensures { result ≡ verdict (at_place 2 (first_out v) ∷ []) }
 {
     if v.inside < v.count {
-        return Refusal {
-            number: 2,
-            place: v.inside,
-        };
+        return Err(Refusal::at(Reason::Value, v.inside));
     }
-    after
+    Ok(())
 }
 
 // The length of the series, then its values, then those of the query.
-pub fn refuse_values(v: Values, q: Values) -> Refusal
-    ensures { result ≡ refusal_of (values_table v q) }
+pub fn refuse_values(v: Values, q: Values) -> Result<(), Refusal>
+    ensures { result ≡ verdict (values_table v q) }
 {
-    let values = refuse_value(v, refuse_value(q, unrefused()));
-    refuse_if(!length_in(MOST_PROGRAM_VALUES, v.count), 1, values)
+    refuse_if(
+        !length_in(MOST_PROGRAM_VALUES, v.count),
+        Reason::SeriesLength,
+    )?;
+    refuse_value(v)?;
+    refuse_value(q)
 }
 
 // The single numbers, for a series of n values and a query of m.
-pub fn refuse_numbers(n: usize, m: usize, x: Numbers) -> Refusal
+pub fn refuse_numbers(n: usize, m: usize, x: Numbers) -> Result<(), Refusal>
     requires { (n < 2 ^ 63) × (m < 2 ^ 63) }
-    ensures { result ≡ refusal_of (numbers_table n m x) }
+    ensures { result ≡ verdict (numbers_table n m x) }
 {
-    let scale = refuse_if(
+    refuse_if(
+        outside(1, WINDOW, x.window) | above(n, x.window),
+        Reason::Window,
+    )?;
+    refuse_if(outside(1, WIDTH, x.width), Reason::Width)?;
+    refuse_if(outside(0, MERGE, x.merge), Reason::Merge)?;
+    refuse_if(query_length_outside(m, n), Reason::QueryLength)?;
+    refuse_if(above(m, x.window), Reason::QueryBelowWindow)?;
+    refuse_if(band_outside(m, x.band), Reason::Band)?;
+    refuse_if(outside(0, THRESHOLD, x.threshold), Reason::Threshold)?;
+    refuse_if(
         outside(NARROW, SCALE, x.scale) | outside(0, SHIFT, x.shift),
-        10,
-        unrefused(),
-    );
-    let threshold = refuse_if(outside(0, THRESHOLD, x.threshold), 9, scale);
-    let band = refuse_if(band_outside(m, x.band), 8, threshold);
-    let below = refuse_if(above(m, x.window), 7, band);
-    let query = refuse_if(query_length_outside(m, n), 6, below);
-    let merge = refuse_if(outside(0, MERGE, x.merge), 5, query);
-    let width = refuse_if(outside(1, WIDTH, x.width), 4, merge);
-    refuse_if(outside(1, WINDOW, x.window) | above(n, x.window), 3, width)
+        Reason::ScaleOrShift,
+    )
 }
 
 // The call that a text gives.
-pub fn refuse_call(v: Values, q: Values, x: Numbers, query: &[i32]) -> Refusal
+pub fn refuse_call(v: Values, q: Values, x: Numbers, query: &[i32]) -> Result<(), Refusal>
     requires { Sound q query.now }
-    ensures { result ≡ refusal_of (call_table v q x query.now) }
+    ensures { result ≡ verdict (call_table v q x query.now) }
 {
-    let values = refuse_values(v, q);
-    if values.number != 0 {
-        return values;
-    }
-    let m = q.count;
-    let numbers = refuse_numbers(v.count, m, x);
-    if numbers.number != 0 {
-        return numbers;
-    }
-    refuse_if(normal_flat(kind_of(x.raw), &query[..m]), 11, unrefused())
+    refuse_values(v, q)?;
+    refuse_numbers(v.count, q.count, x)?;
+    refuse_if(
+        normal_flat(kind_of(x.raw), &query[..q.count]),
+        Reason::FlatQuery,
+    )
 }
 
 fn is_done(s: State) -> bool
     ensures { result ≡ is_done s }
 {
-    match s {
-        State::In(_, _) => false,
-        State::At(_, _) => false,
-        State::Before(_) => false,
-        State::Done => true,
-    }
+    matches!(s, State::Done)
 }
 
 // What refuses the program at the end of its input.
-pub fn refuse(r: Input, numbers: &[i64], query: &[i32]) -> Refusal
+pub fn refuse(r: Input, numbers: &[i64], query: &[i32]) -> Result<(), Refusal>
     requires { SoundEnd r numbers.now query.now }
-    ensures { result ≡ refusal_of (end_table r numbers.now query.now) }
+    ensures { result ≡ verdict (end_table r numbers.now query.now) }
 {
     match r {
-        Input::Failed(line) => Refusal {
-            number: 12,
-            place: line,
-        },
+        Input::Failed(line) => Err(Refusal::at(Reason::Text, line)),
         Input::Going(p, line) => {
-            let s = p.state;
-            if !is_done(s) {
-                return Refusal {
-                    number: 12,
-                    place: line,
-                };
+            if !is_done(p.state) {
+                return Err(Refusal::at(Reason::Text, line));
             }
-            let v = p.series;
-            let q = p.query;
-            refuse_call(v, q, numbers_of(numbers), query)
+            refuse_call(p.series, p.query, numbers_of(numbers), query)
         }
     }
 }

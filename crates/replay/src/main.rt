@@ -5,16 +5,15 @@
 ghost use Rattle.std.specs.Prelude.{◌≤◌, length};
 ghost use Rattle.meaning_curves.specs.Limits.{most_program_values, longest_query};
 
+use entry_build::build;
+use entry_search::search;
 use meaning_curves::{LONGEST_QUERY, MOST_PROGRAM_VALUES};
-use meaning_entries::{Built, Found};
+use meaning_entries::{Found, Reason, Refusal};
 use meaning_filter::{Ask, Limits, Pick};
 use meaning_rows::{Head, Row};
-use program_table::{Table, search_table};
+use std::io::Result as IoResult;
 use try_c_match::{curve_matches, kind_of};
-use try_print::{
-    build_prices, get_limits, get_offset, print_at, print_count, print_refused, print_size,
-    print_too_much, read_input, rows_of,
-};
+use try_print::{Count, get_limits, get_offset, print_refused, print_too_much, read_input};
 use try_vectors::{get, get_length, get_small, get_values, plus};
 
 // ---- what is asked for
@@ -47,65 +46,72 @@ fn story_of(nums: &[u64], n: usize) -> Story
 
 // ---- words
 
-fn print_index(head: Head) {
-    io::write_all(1, b"window length ");
-    io::print_decimal(1, head.window as u64);
-    io::write_all(1, b", ");
-    print_count(head.windows as usize, b" window\n", b" windows\n");
+fn prices(n: usize) -> Count<'static> {
+    Count {
+        n,
+        one: "price",
+        many: "prices",
+    }
 }
 
-fn print_step(matches: usize, candidates: usize, same: bool) {
-    print_count(matches, b" match of ", b" matches of ");
-    print_count(candidates, b" candidate", b" candidates");
-    if same {
-        io::write_all(1, b", the scan finds the same\n");
-    } else {
-        io::write_all(1, b", the scan finds others\n");
-    }
+fn print_index(rt: &impl Print, head: Head) -> IoResult<()> {
+    let windows = Count {
+        n: head.windows as usize,
+        one: "window",
+        many: "windows",
+    };
+    println!(rt; "window length {}, {windows}", head.window)
+}
+
+fn print_step(rt: &impl Print, matches: usize, candidates: usize, same: bool) -> IoResult<()> {
+    let matches = Count {
+        n: matches,
+        one: "match",
+        many: "matches",
+    };
+    let candidates = Count {
+        n: candidates,
+        one: "candidate",
+        many: "candidates",
+    };
+    let what = if same { "the same" } else { "others" };
+    println!(rt; "{matches} of {candidates}, the scan finds {what}")
 }
 
 // How many of the `m` prices from `from` on stand behind the first `indexed`.
 fn newer(from: usize, m: usize, indexed: usize) -> usize {
-    if indexed <= from {
-        return m;
-    }
-    if m <= indexed - from {
-        return 0;
-    }
-    m - (indexed - from)
+    m.saturating_sub(indexed.saturating_sub(from))
 }
 
-fn print_match(offset: usize, distance: u64, m: usize, indexed: usize) {
-    print_at(offset, distance);
-    io::write_all(1, b", ");
-    print_size(newer(offset, m, indexed));
-    io::write_all(1, b" of its ");
-    print_count(
-        m,
-        b" price newer than the index\n",
-        b" prices newer than the index\n",
-    );
+fn print_match(
+    rt: &impl Print,
+    offset: usize,
+    distance: u64,
+    m: usize,
+    indexed: usize,
+) -> IoResult<()> {
+    println!(rt; "  at {offset}, distance {distance}, {} of its {} newer than the index", newer(offset, m, indexed), prices(m))
 }
 
 // ---- the list of a search
 
 // The matches that reach past the first `told` prices.
 fn print_new(
+    rt: &impl Print,
     offsets: &[u32],
     distances: &[u64],
     matches: usize,
     m: usize,
     told: usize,
     indexed: usize,
-) {
-    let mut k: usize = 0;
-    while k < matches {
+) -> IoResult<()> {
+    for k in 0..matches {
         let offset = get_offset(offsets, k);
         if told < plus(offset, m) {
-            print_match(offset, get(distances, k), m, indexed);
+            print_match(rt, offset, get(distances, k), m, indexed)?;
         }
-        k += 1;
     }
+    Ok(())
 }
 
 // Whether a list is what the scan says of its offsets: the distance and 1 of a match, 0 of any other.
@@ -117,19 +123,14 @@ fn same_list(
     n: usize,
 ) -> bool {
     let mut k: usize = 0;
-    let mut j: usize = 0;
-    while j < n {
+    for j in 0..n {
         let x = get(scanned, j);
         if x != 0 {
-            if get_offset(offsets, k) != j {
-                return false;
-            }
-            if get(distances, k) != x - 1 {
+            if get_offset(offsets, k) != j || get(distances, k) != x - 1 {
                 return false;
             }
             k = plus(k, 1);
         }
-        j += 1;
     }
     k == matches
 }
@@ -199,26 +200,23 @@ fn search_step(
     series: &[i32],
     query: &[i32],
     head: Head,
-    table: [Row; MOST_PROGRAM_VALUES],
-    rows: usize,
+    rows: &[Row],
     left: &[u32],
     right: &[u32],
     offsets: &mut [u32],
     distances: &mut [u64],
-) -> Found
-    requires { rows ≤ most_program_values }
-{
+) -> Result<Found, Refusal> {
     let mut first = [0u32; MOST_PROGRAM_VALUES];
     let mut last = [0u32; MOST_PROGRAM_VALUES];
     let mut scratch = [0u16; MOST_PROGRAM_VALUES];
-    let kind = kind_of(s.kind);
-    let limits = s.limits;
-    let pick = Pick::All;
-    let ask = Ask { kind, limits, pick };
-    search_table(
+    let ask = Ask {
+        kind: kind_of(s.kind),
+        limits: s.limits,
+        pick: Pick::All,
+    };
+    search(
         series,
         head,
-        table,
         rows,
         left,
         right,
@@ -232,74 +230,65 @@ fn search_step(
     )
 }
 
-// A search that does not list all matches has nothing to be held to the scan.
-fn unheld(t: Turn, tried: u64) -> Turn {
-    Turn {
-        told: t.told,
-        same: t.same,
-        tried: tried,
-    }
-}
-
-// What a search answered, told and held to the scan.
+// What a search answered, told and held to the scan; one that does not list all matches has nothing to be held to it.
 fn tell(
+    rt: &impl Print,
     s: Story,
     series: &[i32],
     query: &[i32],
-    answer: Found,
+    answer: Result<Found, Refusal>,
     offsets: &[u32],
     distances: &[u64],
     t: Turn,
-) -> Turn
+) -> IoResult<Turn>
     requires { length query.now ≤ longest_query }
 {
     let n = series.len();
-    let tried = std::num::wrapping_add_u64(t.tried, 1);
-    print_count(n, b" price: ", b" prices: ");
+    let tried = t.tried.wrapping_add(1);
+    let unheld = Turn {
+        told: t.told,
+        same: t.same,
+        tried,
+    };
+    print!(rt; "{}: ", prices(n))?;
     match answer {
-        Found::All {
+        Ok(Found::All {
             candidates,
             matches,
-        } => {
+        }) => {
             let same = scan_finds(s, series, query, offsets, distances, matches);
-            print_step(matches, candidates, same);
-            print_new(offsets, distances, matches, query.len(), t.told, s.indexed);
-            Turn {
+            print_step(rt, matches, candidates, same)?;
+            print_new(rt, offsets, distances, matches, query.len(), t.told, s.indexed)?;
+            Ok(Turn {
                 told: n,
-                same: std::num::wrapping_add_u64(t.same, same as u64),
-                tried: tried,
-            }
+                same: t.same.wrapping_add(same as u64),
+                tried,
+            })
         }
-        Found::Full {
-            candidates: _,
-            matches: _,
-        } => {
-            print_refused(24, 0);
-            unheld(t, tried)
+        Ok(Found::Full { .. }) => {
+            print_refused(rt, Refusal::at(Reason::FullList, 0))?;
+            Ok(unheld)
         }
-        Found::Few {
-            candidates: _,
-            matches: _,
-        } => unheld(t, tried),
-        Found::Refused { number, place } => {
-            print_refused(number, place);
-            unheld(t, tried)
+        Ok(Found::Few { .. }) => Ok(unheld),
+        Err(r) => {
+            print_refused(rt, r)?;
+            Ok(unheld)
         }
     }
 }
 
 fn step(
+    rt: &impl Print,
     s: Story,
     series: &[i32],
     query: &[i32],
     head: Head,
-    table: [Row; MOST_PROGRAM_VALUES],
-    rows: usize,
+    rows: &[Row],
     left: &[u32],
     right: &[u32],
     t: Turn,
-) -> Turn
-    requires { (rows ≤ most_program_values) × (length query.now ≤ longest_query) }
+) -> IoResult<Turn>
+    requires { length query.now ≤ longest_query }
 {
     let mut offsets = [0u32; MOST_PROGRAM_VALUES];
     let mut distances = [0u64; MOST_PROGRAM_VALUES];
@@ -308,82 +297,76 @@ fn step(
         series,
         query,
         head,
-        table,
         rows,
         left,
         right,
         &mut offsets,
         &mut distances,
     );
-    tell(s, series, query, answer, &offsets, &distances, t)
+    tell(rt, s, series, query, answer, &offsets, &distances, t)
 }
 
 // From the prices of the index on, one more at a time.
 fn steps(
+    rt: &impl Print,
     s: Story,
     series: &[i32],
     query: &[i32],
     head: Head,
-    table: [Row; MOST_PROGRAM_VALUES],
-    rows: usize,
+    rows: &[Row],
     left: &[u32],
     right: &[u32],
-) -> Turn
-    requires { (rows ≤ most_program_values) × (length series.now ≤ most_program_values) × (length query.now ≤ longest_query) }
+) -> IoResult<Turn>
+    requires { (length series.now ≤ most_program_values) × (length query.now ≤ longest_query) }
 {
     let mut t = Turn {
         told: 0,
         same: 0,
         tried: 0,
     };
-    let mut n = s.indexed;
-    while n <= series.len() {
-        t = step(s, &series[..n], query, head, table, rows, left, right, t);
-        n += 1;
+    for n in s.indexed..series.len() + 1 {
+        t = step(rt, s, &series[..n], query, head, rows, left, right, t)?;
     }
-    t
+    Ok(t)
 }
 
 // ---- the program
 
-// The index of the first prices.
-fn build_first(s: Story, series: &[i32], left: &mut [u32], right: &mut [u32]) -> Table
-    requires { s.indexed ≤ length series.now }
-{
-    let n = s.indexed;
-    build_prices(&series[..n], s.window, s.width, s.merge, left, right)
-}
-
 // The index, the steps, and how many lists were the scan's.
-fn replay(s: Story, series: &[i32], query: &[i32])
+fn replay(rt: &impl Print, s: Story, series: &[i32], query: &[i32]) -> IoResult<()>
     requires { (s.indexed ≤ length series.now) × (length series.now ≤ most_program_values) × (length query.now ≤ longest_query) }
 {
+    let mut rows = [Row {
+        low: 0,
+        up: 0,
+        first: 0,
+        runs: 0,
+    }; MOST_PROGRAM_VALUES];
     let mut left = [0u32; MOST_PROGRAM_VALUES];
     let mut right = [0u32; MOST_PROGRAM_VALUES];
-    let made = build_first(s, series, &mut left, &mut right);
-    let table = made.rows;
-    let answer = made.answer;
-    io::write_all(1, b"index of ");
-    print_count(s.indexed, b" price: ", b" prices: ");
-    match answer {
-        Built::Refused { number, place } => print_refused(number, place),
-        Built::Index {
-            head,
-            rows,
-            runs: _,
-        } => {
-            print_index(head);
-            let t = steps(s, series, query, head, table, rows_of(rows), &left, &right);
-            io::print_decimal(1, t.same);
-            io::write_all(1, b" of ");
-            io::print_decimal(1, t.tried);
-            io::write_all(1, b" lists are the scan's\n");
+    let made = build(
+        &series[..s.indexed],
+        s.window,
+        s.width,
+        s.merge,
+        &mut rows,
+        &mut left,
+        &mut right,
+    );
+    print!(rt; "index of {}: ", prices(s.indexed))?;
+    match made {
+        Err(r) => print_refused(rt, r),
+        Ok(index) => {
+            print_index(rt, index.head)?;
+            let n = index.rows.min(MOST_PROGRAM_VALUES);
+            let t = steps(rt, s, series, query, index.head, &rows[..n], &left, &right)?;
+            println!(rt; "{} of {} lists are the scan's", t.same, t.tried)
         }
     }
 }
 
 // The numbers of the input, of which `n` are prices and `m` values of the query.
-fn run(nums: &[u64], n: usize, m: usize)
+fn run(rt: &impl Print, nums: &[u64], n: usize, m: usize) -> IoResult<()>
     requires { (n ≤ most_program_values) × (m ≤ longest_query) }
 {
     let s = story_of(nums, n);
@@ -391,15 +374,12 @@ fn run(nums: &[u64], n: usize, m: usize)
     let mut query = [0i32; LONGEST_QUERY];
     get_values(nums, 5, &mut series);
     get_values(nums, plus(11, n), &mut query);
-    replay(s, &series[..n], &query[..m]);
+    replay(rt, s, &series[..n], &query[..m])
 }
 
-fn main() {
-    let x = read_input(4);
-    if x.held {
-        let numbers = x.numbers;
-        run(&numbers, x.prices, x.values);
-    } else {
-        print_too_much(b"not replayed");
+fn main(rt: HostRuntime) -> IoResult<()> {
+    match read_input(4) {
+        Some(x) => run(&rt, &x.numbers, x.prices, x.values),
+        None => print_too_much(&rt, "not replayed"),
     }
 }

@@ -1,17 +1,7 @@
--- The two ends of a binary search over row records after a turn, and what the search finds.
-use Rattle.std.specs.Prelude.{ℕ, ◌+◌, ◌-◌, ◌/◌, ◌<◌, ◌≤◌, ℤ, get_or, length, ◌≤ℤ◌, ◌<ℤ◌, cond, List, ◌≡◌}
-use Rattle.std.specs.Int.Signed.{le_z}
+-- What a search over row records finds.
+use Rattle.std.specs.Prelude.{ℕ, ◌<◌, ◌≤◌, ℤ, get_or, length, ◌≤ℤ◌, ◌<ℤ◌, List, ◌≡◌}
 use Rattle.meaning_rows.specs.declared.Row.{Row}
 use Rattle.rows_records.specs.Records.{zero_row}
-
-abbrev pub mid_of : ℕ → ℕ → ℕ
-mid_of lo hi = lo + (hi - lo) / 2
-
-abbrev pub next_lo : ℕ → ℕ → Row → ℤ → ℕ
-next_lo lo mid r sum = cond (le_z r.up sum) (mid + 1) lo
-
-abbrev pub next_hi : ℕ → ℕ → Row → ℤ → ℕ
-next_hi hi mid r sum = cond (le_z r.up sum) hi mid
 
 -- the upper ends of the first n ranges ascend
 pub record Climbs (rows : List Row) (n : ℕ) : Type 0 where

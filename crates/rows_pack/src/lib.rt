@@ -12,16 +12,15 @@ pub fn sum_up(counts: &mut [u32], n: usize)
     requires { (n ≤ length counts.old) × (total counts.old n ≤ 4294967295) }
     ensures { Summed n counts.old counts.new }
 {
-    let mut sum: u32 = 0;
-    let mut i: usize = 0;
-    while i < n {
+    let mut sum = 0;
+    for i in 0..n {
         sum += counts[i];
         counts[i] = sum;
-        i += 1;
     }
 }
 
 // Where the part of row `i` begins: at the end of the part before.
+#[tactic(auto, unfolding(crate::specs::Packed::start_of))]
 pub fn start_of(ends: &[u32], i: usize) -> u32
     requires { i < length ends.now }
     ensures { result ≡ start_of ends.now i }
@@ -49,9 +48,7 @@ pub fn pack_rows(numbers: &[u32], ends: &[u32], d: u64, bias: u64, n: usize, row
     requires { (n ≤ length rows.old) × Packable numbers.now ends.now d bias n }
     ensures { rows.new ≡ packed numbers.now ends.now d bias n rows.old }
 {
-    let mut i = 0;
-    while i < n {
+    for i in 0..n {
         rows[i] = row_from(numbers, ends, d, bias, i);
-        i += 1;
     }
 }

@@ -1,6 +1,8 @@
 -- A chunk of records, entry by entry: `chunk-at` says that entry k is record `from + k` of those lent, the record of zeros past the end, and `chunk-length` that there are 64.
 -- From what `copied` has at each place.
-use Rattle.meaning_numbers.proofs.Prelude.{ℕ, zero, suc, ◌+◌, ◌-◌, ◌<◌, ◌≤◌, length, get_or, set, replicate, length-set, length-replicate, get_or-replicate, List·get_d-eq-default, get_or-set_same, get_or-set_other, ext_get_or, List, ◌≡◌, refl, sym, ◌∙◌, dec_le, add-one, arith}
+use Rattle.meaning_numbers.proofs.Prelude.{ℕ, zero, suc, ◌+◌, ◌-◌, ◌<◌, ◌≤◌, length, get_or, replicate, length-set, length-replicate, get_or-replicate, List·get_d-eq-default, get_or-set_same, get_or-set_other, get_or-append-add, get_or-drop, List·get_d-append, length-append, length-drop, drop, ◌++◌, ext_get_or, List, ◌≡◌, refl, sym, ◌∙◌, dec_le, arith}
+use Rattle.std.specs.List.{between}
+use Rattle.std.proofs.lemmas.List.Edits.{length-between, get_or-between}
 use Rattle.meaning_rows.specs.declared.Row.{Row}
 use Rattle.rows_records.specs.Records.{zero_row, copied, count_from, chunk_of}
 
@@ -8,10 +10,6 @@ module _ (rows : List Row) (from : ℕ) where
   pub copied_none : (out : List Row) → copied rows from 0 out ≡ out
   unfolding copied
   copied_none out = refl
-
-  pub copied_more : (n : ℕ) (out : List Row) → copied rows from (n + 1) out ≡ set (copied rows from n out) n (get_or rows (from + n) zero_row)
-  unfolding copied
-  copied_more n out = rw (add-one n) refl
 
   pub length-copied : (n : ℕ) (out : List Row) → length (copied rows from n out) ≡ length out
   unfolding copied
@@ -39,19 +37,24 @@ module _ (rows : List Row) (from : ℕ) where
   unfolding chunk_of
   chunk-at k h = copied_at 64 k _ h (omega arith)
 
-  -- what the loop of `copy_rows` keeps: i, and the list then
-  pub record Copying (n : ℕ) (out : List Row) (i : ℕ) (l : List Row) : Type 0 where
-    pub upto : i ≤ n
-    pub is : l ≡ copied rows from i out
+  -- ---- what is there, copied at once
 
-  pub there : (i n : ℕ) → i < n → n ≤ length rows - from → from + i < length rows
-  there i n less within = omega arith
+  -- an element of a front part or of what stands behind it
+  seam : (xs ys : List Row) (n k : ℕ) → length xs ≡ n → n ≤ k → get_or ys k zero_row ≡ get_or (xs ++ drop n ys) k zero_row
+  seam xs ys n k e l =
+      let q : k ≡ length xs + (k - n) = omega arith in
+      let p : n + (k - n) ≡ k = omega arith in
+      rw (q, get_or-append-add xs (drop n ys) (k - n) zero_row, get_or-drop n ys (k - n) zero_row) (rw (← q, p) refl)
 
-  pub copying-turn : {n i : ℕ} {out l : List Row} → Copying n out i l → i < n → Copying n out (i + 1) (set l i (get_or rows (from + i) zero_row))
-  copying-turn {n} {i} {out} k less = record { upto = omega arith; is = rw k.is (sym (copied_more i out)) }
-
-  pub copying-ends : {n i : ℕ} {out l : List Row} → Copying n out i l → n ≤ i → l ≡ copied rows from n out
-  copying-ends {n} {i} {out} k end = let e : i ≡ n = omega (arith, end) in k.is ∙ rw e refl
+  pub copied-is : (n : ℕ) (out : List Row) → 0 < n → n ≤ length rows - from → n ≤ length out → copied rows from n out ≡ between from (from + n) rows ++ drop n out
+  copied-is n out some there room =
+      let within : from + n ≤ length rows = omega arith in
+      let long : length (between from (from + n) rows) ≡ n = omega (arith, length-between rows from (from + n) within) in
+      ext_get_or zero_row _ _ (omega (arith, length-copied n out, length-append (between from (from + n) rows) (drop n out), length-drop n out))
+      (λ k h. elim (dec_le (suc k) n) [
+        | yes m ↦ copied_at n k out m room ∙ sym (List·get_d-append (between from (from + n) rows) (drop n out) zero_row k (omega (arith, long, m)) ∙ get_or-between rows from (from + n) k zero_row (omega (arith, m)))
+        | no f ↦ copied-past n k out (omega (arith, f)) ∙ seam (between from (from + n) rows) out n k long (omega (arith, f))
+      ])
 
   -- ---- the code copies only what is there
 

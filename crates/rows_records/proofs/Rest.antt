@@ -5,7 +5,7 @@
 --     sub-fits         a difference fits where the greater number does
 --     next_fits, next-upto, nearer, nearer-to, upto-end       of a count i that goes up to n
 use native.Mathlib.Nat.{not-suc-le-zero, le_of_suc-le-suc}
-use Rattle.meaning_numbers.proofs.Prelude.{ℕ, zero, suc, ◌+◌, ◌-◌, ◌<◌, ◌≤◌, length, get_or, set, take, drop, length-set, length-take, Bool, true, false, List, [], ◌∷◌, ◌≡◌, refl, sym, ◌∙◌, arith}
+use Rattle.meaning_numbers.proofs.Prelude.{ℕ, zero, suc, ◌+◌, ◌-◌, ◌<◌, ◌≤◌, length, get_or, set, take, drop, length-set, length-take, Bool, true, false, List, [], ◌∷◌, ◌≡◌, refl, ◌∙◌, arith}
 
 pub by_bool {ℓ} : {X : Type ℓ} (t : Bool) → (t ≡ true → X) → (t ≡ false → X) → X
 by_bool true a b = a refl

@@ -30,10 +30,7 @@ pub fn row_at(rows: &[Row], k: usize) -> Row
 pub fn row_or(rows: &[Row], k: usize, none: Row) -> Row
     ensures { result ≡ get_or rows.now k none }
 {
-    if k < rows.len() {
-        return row_at(rows, k);
-    }
-    none
+    rows.get(k).copied().unwrap_or(none)
 }
 
 // Every record from a place on is made the record of zeros.
@@ -41,16 +38,7 @@ pub fn clear_rows(rows: &mut [Row], from: usize)
     requires { from ≤ length rows.old }
     ensures { rows.new ≡ take from rows.old ++ replicate (length rows.old - from) zero_row }
 {
-    let mut i = from;
-    while i < rows.len() {
-        rows[i] = Row {
-            low: 0,
-            up: 0,
-            first: 0,
-            runs: 0,
-        };
-        i += 1;
-    }
+    rows[from..].fill(zero_row());
 }
 
 // The n records from a place on become the first n of `out`.
@@ -58,11 +46,8 @@ pub fn copy_rows(rows: &[Row], from: usize, n: usize, out: &mut [Row])
     requires { (n ≤ length rows.now - from) × (n ≤ length out.old) }
     ensures { out.new ≡ copied rows.now from n out.old }
 {
-    let mut i = 0;
-    while i < n {
-        let r = rows[from + i];
-        out[i] = r;
-        i += 1;
+    if 0 < n {
+        out[..n].copy_from_slice(&rows[from..from + n]);
     }
 }
 
@@ -70,25 +55,15 @@ pub fn copy_rows(rows: &[Row], from: usize, n: usize, out: &mut [Row])
 pub fn count_from(count: usize, from: usize, size: usize) -> usize
     ensures { result ≡ count_from count from size }
 {
-    if from < count {
-        let left = count - from;
-        if left < size { left } else { size }
-    } else {
-        0
-    }
+    count.saturating_sub(from).min(size)
 }
 
 // A chunk of 64 records by value: those from a place on, and past the end the record of zeros.
 pub fn chunk_at(rows: &[Row], from: usize) -> [Row; 64]
     ensures { result ≡ chunk_of rows.now from }
 {
-    let mut c = [Row {
-        low: 0,
-        up: 0,
-        first: 0,
-        runs: 0,
-    }; 64];
+    let mut chunk = [zero_row(); 64];
     let n = count_from(rows.len(), from, 64);
-    copy_rows(rows, from, n, &mut c);
-    c
+    copy_rows(rows, from, n, &mut chunk);
+    chunk
 }

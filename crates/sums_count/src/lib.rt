@@ -9,8 +9,8 @@ ghost use Rattle.sums_slide.specs.Picked.{Appended};
 ghost use Rattle.sums_slide.specs.Table.{table};
 ghost use Rattle.sums_count.specs.Tally.{Rising, Has, Counted};
 
-use clear::clear_u32;
-use sums_slide::{Window, first_level, list_rows, next_row, row_of_level};
+use clear::clear;
+use sums_slide::{first_place, list_rows, next_row, row_of_level};
 
 // 1 where a number is at most `k`, else 0: a quotient, so that no jump depends on it. Nobody could foretell the jumps of a search.
 pub fn at_most(x: u32, k: u64) -> usize
@@ -27,7 +27,8 @@ pub fn find_number(numbers: &[u32], count: usize, k: u64) -> usize
     requires has { Has numbers.now count k }
     ensures { (result < count) × (get_or numbers.now result 0 ≡ k) }
 {
-    let mut lo: usize = 0;
+    // std's `partition_point` jumps on each number that it reads.
+    let mut lo = 0;
     let mut size = count;
     while 1 < size {
         let half = size / 2;
@@ -55,25 +56,12 @@ pub fn count_runs(
     ensures { Counted (row_of (level s.now w e) d) (windows_of s.now w) (table s.now w e d) counts.new }
 {
     let windows = s.len() + 1 - w;
-    let mut j: usize = 0;
-    let mut n = first_level(s, w, e);
-    while j < windows {
-        let k = row_of_level(n, d);
+    let mut at = first_place(s, w, e);
+    while at.offset < windows {
+        let k = row_of_level(at.level, d);
         let i = find_number(numbers, count, k);
-        counts[i] = counts[i] + 1;
-        let next = next_row(
-            s,
-            w,
-            e,
-            d,
-            k,
-            Window {
-                offset: j,
-                level: n,
-            },
-        );
-        j = next.offset;
-        n = next.level;
+        counts[i] += 1;
+        at = next_row(s, w, e, d, k, at);
     }
 }
 
@@ -95,7 +83,7 @@ pub fn plan(
     ensures counted { Counted (row_of (level s.now w e) d) (windows_of s.now w) (table s.now w e d) counts.new }
 {
     let n = list_rows(s, w, e, d, flags, numbers);
-    clear_u32(counts, 0);
+    clear(counts, 0, 0);
     count_runs(s, w, e, d, numbers, n, counts);
     n
 }

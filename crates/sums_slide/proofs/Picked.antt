@@ -1,5 +1,4 @@
 -- Laws of specs/Picked.
-use Rattle.meaning_numbers.specs.Sum.{count}
 use Rattle.meaning_numbers.proofs.Prelude.{◌≡◌, refl, sym, ap, ◌∙◌, Bool, true, false, List, [], ◌∷◌, ◌++◌, append-nil, append_assoc, ℕ, zero, suc, ◌+◌, ◌<◌, ◌≤◌, arith, add-one, length, take, set, length-append, length-set, take-suc-set, by-test}
 use Rattle.sums_slide.specs.Picked.{picked, Appended}
 

@@ -1,6 +1,5 @@
 -- The numbers from one on that pass a test, ascending.
 use Rattle.std.specs.Prelude.{ℕ, zero, suc, ◌+◌, length, take, Bool, cond, List, [], ◌∷◌, ◌++◌, ◌≡◌}
-use Rattle.meaning_numbers.specs.Sum.{count}
 
 -- of the m numbers from base on
 unfoldable pub picked : (ℕ → Bool) → ℕ → ℕ → List ℕ

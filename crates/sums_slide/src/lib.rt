@@ -13,8 +13,8 @@ ghost use Rattle.sums_slide.specs.Marks.{flagged, lit, met, Flags};
 ghost use Rattle.sums_slide.specs.Table.{table};
 ghost use Rattle.sums_slide.specs.Picked.{picked, Appended};
 
-use clear::clear_u8;
-use numbers::{RAISE, greater, lesser, lower, quotient, raise};
+use clear::clear;
+use numbers::{RAISE, lower, quotient, raise};
 use values::raised_sum;
 
 // A window with its raised sum.
@@ -29,12 +29,7 @@ pub fn value_at(s: &[i32], i: usize) -> u64
     requires { AllIn s.now }
     ensures { result ≡ raised (at s.now i) }
 {
-    if i < s.len() {
-        let x = s[i];
-        raise(x)
-    } else {
-        RAISE
-    }
+    raise(s.get(i).copied().unwrap_or(0))
 }
 
 // The raised sum of the next window.
@@ -93,11 +88,11 @@ pub fn raise_end(x: i32, bias: u64) -> u64
     requires negsuc_bound { (negsuc 999999999 ≤ℤ x) × (x ≤ℤ pos 1000000000) }
     ensures { result ≡ raised_end bias x }
 {
-    let t = x + (bias as i32);
-    if t < 0 { 0 } else { t as u64 }
+    (x + bias as i32).max(0) as u64
 }
 
 // The raised sum is in the raised range.
+#[tactic(auto, unfolding(crate::specs::Levels::within))]
 pub fn in_range(lo: u64, hi: u64, n: u64) -> bool
     ensures { result ≡ within lo hi n }
 {
@@ -132,30 +127,17 @@ pub fn next_out(s: &[i32], w: usize, e: u64, from: Window, lo: u64, hi: u64) -> 
     requires level_value { from.level ≡ level s.now w e from.offset }
     ensures { Stop (level s.now w e) (windows_of s.now w) lo hi from.offset result.offset result.level }
 {
-    let last = s.len() - w;
-    let mut j = from.offset;
-    let mut n = from.level;
-    while j < last {
-        if !in_range(lo, hi, n) {
-            return Window {
-                offset: j,
-                level: n,
-            };
+    let mut at = from;
+    for j in from.offset..s.len() - w {
+        if !in_range(lo, hi, at.level) {
+            return at;
         }
-        n = move_on(s, w, e, j, n);
-        j += 1;
+        at = Window {
+            offset: j + 1,
+            level: move_on(s, w, e, j, at.level),
+        };
     }
-    last_out(
-        s,
-        w,
-        e,
-        Window {
-            offset: j,
-            level: n,
-        },
-        lo,
-        hi,
-    )
+    last_out(s, w, e, at, lo, hi)
 }
 
 // The raised row number of a raised sum. Every row number is made here.
@@ -180,14 +162,13 @@ pub fn next_row(s: &[i32], w: usize, e: u64, d: u64, k: u64, from: Window) -> Wi
 }
 
 // The flag of row number `k` is set, where the flags, which begin at `base`, have it.
+#[tactic(auto, unfolding(crate::specs::Marks::flagged), using(meaning_numbers::proofs::Prelude::set_out))]
 pub fn set_flag(flags: &mut [u8], base: u64, k: u64)
     ensures { flags.new ≡ flagged flags.old base k }
 {
-    if base <= k {
-        let x = (k - base) as usize;
-        if x < flags.len() {
-            flags[x] = 1;
-        }
+    // Not by `get_mut`: of a slice it promises nothing about the other entries.
+    if base <= k && k - base < flags.len() as u64 {
+        flags[(k - base) as usize] = 1;
     }
 }
 
@@ -200,24 +181,11 @@ pub fn mark(s: &[i32], w: usize, e: u64, d: u64, base: u64, flags: &mut [u8])
     ensures flags_len_unchanged { length flags.new ≡ length flags.old }
 {
     let windows = s.len() + 1 - w;
-    let mut j: usize = 0;
-    let mut n = first_level(s, w, e);
-    while j < windows {
-        let k = row_of_level(n, d);
+    let mut at = first_place(s, w, e);
+    while at.offset < windows {
+        let k = row_of_level(at.level, d);
         set_flag(flags, base, k);
-        let next = next_row(
-            s,
-            w,
-            e,
-            d,
-            k,
-            Window {
-                offset: j,
-                level: n,
-            },
-        );
-        j = next.offset;
-        n = next.level;
+        at = next_row(s, w, e, d, k, at);
     }
 }
 
@@ -228,14 +196,10 @@ pub fn collect(flags: &[u8], base: u64, out: &mut [u32], k: usize) -> usize
     ensures { Appended (picked (lit flags.now base) base (length flags.now)) k result out.old out.new }
 {
     let mut n = k;
-    let mut x: usize = 0;
-    while x < flags.len() {
-        if flags[x] != 0 {
+    for (x, &flag) in flags.iter().enumerate() {
+        if flag != 0 {
             out[n] = (base + x as u64) as u32;
             n += 1;
-            x += 1;
-        } else {
-            x += 1;
         }
     }
     n
@@ -259,7 +223,7 @@ pub fn list_chunk(
     ensures appended { Appended (picked (met (row_of (level s.now w e) d) (windows_of s.now w)) base (length flags.old)) k result out.old out.new }
     ensures flags_len_unchanged { length flags.new ≡ length flags.old }
 {
-    clear_u8(flags, 0);
+    clear(flags, 0, 0);
     mark(s, w, e, d, base, flags);
     collect(flags, base, out, k)
 }
@@ -277,21 +241,15 @@ pub fn level_ends(s: &[i32], w: usize, e: u64) -> Ends
     ensures bounds { Bounds (level s.now w e) (windows_of s.now w) result.least result.greatest }
     ensures greatest_bound { result.greatest ≤ 6120000 }
 {
-    let last = s.len() - w;
     let mut n = first_level(s, w, e);
     let mut least = n;
     let mut greatest = n;
-    let mut j: usize = 0;
-    while j < last {
+    for j in 0..s.len() - w {
         n = move_on(s, w, e, j, n);
-        least = lesser(least, n);
-        greatest = greater(greatest, n);
-        j += 1;
+        least = least.min(n);
+        greatest = greatest.max(n);
     }
-    Ends {
-        least: least,
-        greatest: greatest,
-    }
+    Ends { least, greatest }
 }
 
 // The row numbers of the windows, ascending, each once, written to the front of `out`; how many there are. What the flags hold does not matter.

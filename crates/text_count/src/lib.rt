@@ -16,13 +16,7 @@ fn advance(limit: usize, at: usize, n: usize) -> usize
     requires { limit < 2 ^ 63 }
     ensures { result ≡ min (at + n) (suc limit) }
 {
-    if limit < at {
-        return limit + 1;
-    }
-    if limit - at < n {
-        return limit + 1;
-    }
-    at + n
+    at.saturating_add(n).min(limit + 1)
 }
 
 pub fn count_head(limit: usize, at: usize, h: Head) -> usize
@@ -33,6 +27,7 @@ pub fn count_head(limit: usize, at: usize, h: Head) -> usize
     advance(limit, at, digits + 37)
 }
 
+#[tactic(auto, unfolding(text_write::specs::Write::end_text, meaning_text::specs::Bytes::bytes))]
 pub fn count_end(limit: usize, at: usize) -> usize
     requires { limit < 2 ^ 63 }
     ensures { Counted limit at end_text result }
@@ -61,13 +56,11 @@ fn count_runs(
 {
     let n = part_length(first, runs, left.len(), right.len());
     let mut to = advance(limit, at, 0);
-    let mut i = 0;
-    while i < n {
+    for i in 0..n {
         if limit < to {
             break;
         }
         to = count_run(limit, to, left[first + i], right[first + i]);
-        i += 1;
     }
     to
 }

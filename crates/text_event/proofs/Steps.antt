@@ -1,11 +1,10 @@
 -- The steps by which runs and the beginnings of rows are read, each by one byte, and what is put together of them (`body-told`, `plain-told`, `first-told`, `range-told`).
-use Rattle.meaning_numbers.proofs.Prelude.{◌≡◌, refl, ℕ, zero, suc, ◌+◌, ◌*◌, ◌-◌, ◌/◌, ◌%◌, ◌<◌, ◌≤◌, ◌^◌, List, add-one, arith, lt-ltb, eq-eqb, ne_eqb, ℤ, pos, neg_ℤ, length, get_or}
+use Rattle.meaning_numbers.proofs.Prelude.{◌≡◌, refl, ℕ, zero, suc, ◌+◌, ◌*◌, ◌-◌, ◌/◌, ◌%◌, ◌<◌, ◌≤◌, ◌^◌, List, add-one, arith, lt-ltb, eq-eqb, ne_eqb, ℤ, pos, neg_ℤ, length, get_or, Some}
 use Rattle.meaning_text.specs.Bytes.{bytes}
 use Rattle.text_numbers.specs.{declared.Numeral.Numeral, Number.num_step, Number.whole}
 use Rattle.text_numbers.proofs.Number.{within-yes}
 use Rattle.text_index.specs.Step.{word, behind, turn_after, pick, reach, closes, word_step, turn_step, end_step, number_step, index_step}
 use Rattle.text_index.specs.{declared.Word.Word, declared.Field.Field, declared.State.State, declared.Moved.Moved}
-use Rattle.text_event.specs.declared.Signed.{Signed}
 use Rattle.text_event.specs.Event.{Quiet, still, more, ValueAt, ClosedAt, RunAt, RowAt, in_run, at_runs, at_first, at_rows, in_range, DigitsAt, NumberAt, left_of, right_of, length_of, PlainAt, BodyAt, Blank, BlankAt, SignedAt, WordAt, Opens, Ends}
 use Rattle.text_event.proofs.Words.{stands-byte}
 
@@ -174,13 +173,13 @@ plain-told text i q e b =
 
 -- ---- the beginnings of rows
 
-pub plus-told : (text : List ℕ) (i q : ℕ) → BlankAt text i q → SignedAt text i (Signed.Read (pos (q / 16)) (i + q % 16 + 1))
+pub plus-told : (text : List ℕ) (i q : ℕ) → BlankAt text i q → SignedAt text i (Some (pos (q / 16), i + q % 16 + 1))
 unfolding bytes
 plus-told text i q x =
     let c = stands-byte x.blank 0 (i + q % 16) (omega arith) (omega arith) in
     (omega arith, λ p n b. record { last = State.At p (Numeral.Plus (q / 16)); place = i + q % 16; quiet = x.number.plus p; inside = c.0; ends = rw c.1 (b.plus (q / 16)); next = refl })
 
-pub less-told : (text : List ℕ) (i q : ℕ) → i < length text → get_or text i 0 ≡ 45 → BlankAt text (i + 1) q → SignedAt text i (Signed.Read (neg_ℤ (pos (q / 16))) (i + 1 + q % 16 + 1))
+pub less-told : (text : List ℕ) (i q : ℕ) → i < length text → get_or text i 0 ≡ 45 → BlankAt text (i + 1) q → SignedAt text i (Some (neg_ℤ (pos (q / 16)), i + 1 + q % 16 + 1))
 unfolding bytes
 less-told text i q h e x =
     let c = stands-byte x.blank 0 (i + 1 + q % 16) (omega arith) (omega arith) in (
@@ -189,7 +188,7 @@ less-told text i q h e x =
           (record { last = State.At p (Numeral.Less (q / 16)); place = i + 1 + q % 16; quiet = x.number.less p; inside = c.0; ends = rw c.1 (b.less (q / 16)); next = refl }),
     )
 
-pub range-told : (text : List ℕ) (i : ℕ) (low up : ℤ) (j k : ℕ) → Opens text i → SignedAt text (i + 5) (Signed.Read low j) → SignedAt text j (Signed.Read up k) → RowAt text i low up k
+pub range-told : (text : List ℕ) (i : ℕ) (low up : ℤ) (j k : ℕ) → Opens text i → SignedAt text (i + 5) (Some (low, j)) → SignedAt text j (Some (up, k)) → RowAt text i low up k
 unfolding bytes
 range-told text i low up j k o x y =
     let z : i + 5 ≡ i + 1 + 1 + 1 + 1 + 1 = omega arith in

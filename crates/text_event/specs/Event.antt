@@ -1,9 +1,10 @@
 -- What comes next in an index text, by the steps of its automaton: bytes that say nothing (`Quiet`), then one that ends a number or a row, that is refused, or the text's end. A run is two numbers, a row's beginning two and a run. What every such step keeps, an event keeps.
-use Rattle.std.specs.Prelude.{ℕ, ◌+◌, ◌/◌, ◌%◌, ◌<◌, ◌≤◌, ◌^◌, ℤ, pos, neg_ℤ, length, get_or, take, drop, List, ◌≡◌}
+use Rattle.std.specs.Prelude.{ℕ, ◌+◌, ◌/◌, ◌%◌, ◌<◌, ◌≤◌, ◌^◌, ℤ, pos, neg_ℤ, length, get_or, take, drop, List, None, Some, ◌≡◌}
+use Rattle.std.specs.declared.option.Option.{Option}
 use Rattle.meaning_text.specs.Bytes.{bytes}
 use Rattle.text_numbers.specs.declared.Numeral.{Numeral}
 use Rattle.text_index.specs.{declared.Word.Word, declared.Field.Field, declared.Turn.Turn, declared.State.State, declared.Moved.Moved, Step.index_step}
-use Rattle.text_event.specs.{declared.Signed.Signed, declared.Range.Range, declared.Event.Event}
+use Rattle.text_event.specs.declared.Event.{Event}
 
 -- from a state at a place to another over bytes that say nothing
 pub data Quiet (text : List ℕ) (s : State) (i : ℕ) : State → ℕ → Type 0 where
@@ -147,10 +148,10 @@ pub record BlankAt (text : List ℕ) (i q : ℕ) : Type 0 where
   pub blank : WordAt text (i + q % 16) (bytes " ")
 
 -- the same with or without a sign
-abbrev pub SignedAt : List ℕ → ℕ → Signed → Type 0
-SignedAt text i (Signed.Read z j) = (j ≤ i + 10) × ((p : Field) (n : State) → Blank p n → ValueAt text (State.At p Numeral.Start) i n p z j)
-SignedAt text i Signed.None = Unit {0}
+abbrev pub SignedAt : List ℕ → ℕ → Option (ℤ × ℕ) → Type 0
+SignedAt text i (Some (z, j)) = (j ≤ i + 10) × ((p : Field) (n : State) → Blank p n → ValueAt text (State.At p Numeral.Start) i n p z j)
+SignedAt text i None = Unit {0}
 
-abbrev pub RangeAt : List ℕ → ℕ → Range → Type 0
-RangeAt text i (Range.Read low up j) = RowAt text i low up j
-RangeAt text i Range.None = Unit {0}
+abbrev pub RangeAt : List ℕ → ℕ → Option (ℤ × ℤ × ℕ) → Type 0
+RangeAt text i (Some (low, up, j)) = RowAt text i low up j
+RangeAt text i None = Unit {0}

@@ -2,25 +2,11 @@
 // Small numbers are told as one number, so that nothing goes through memory for each run: a natural number as 16 times its value and its length, a run as its ends and its length (`left_of`, `right_of`, `length_of`). 0 is none.
 #![tactic(auto)]
 
-ghost use Rattle.std.specs.Prelude.{◌≡◌, true, ◌+◌, ◌<◌, ◌≤◌, ◌^◌, pos, neg_ℤ, length};
+ghost use Rattle.std.specs.Prelude.{◌≡◌, true, ◌+◌, ◌<◌, ◌≤◌, length};
 ghost use Rattle.text_index.specs.Step.{GoodState};
 ghost use Rattle.text_event.specs.Event.{left_of, right_of, length_of, DigitsAt, NumberAt, BodyAt, PlainAt, at_runs, at_first, at_rows, WordAt, BlankAt, SignedAt, RangeAt, Opens, Ends, EventAt};
 
 use text_index::{Field, Moved, State, Turn, index_step};
-
-// A number with a blank behind it, and the place behind that; none where none stands.
-#[derive(Clone, Copy)]
-pub enum Signed {
-    Read(i64, usize),
-    None,
-}
-
-// The beginning of a row up to its first run, the ends of its range and the place behind it; none where none stands.
-#[derive(Clone, Copy)]
-pub enum Range {
-    Read(i64, i64, usize),
-    None,
-}
 
 // What comes next: a row's range and its first run; a run; a number that ended; a row that ended, each with the place behind it; a byte that no text could have; the text's end.
 #[derive(Clone, Copy)]
@@ -39,19 +25,14 @@ fn digits(text: &[u8], at: usize, first: u64) -> u64
     ensures { DigitsAt text.now at first result }
 {
     let mut m = first;
-    let mut k: usize = 0;
-    while k < 7 {
+    for k in 0..7 {
         let b = text[at + k];
-        if b < 48 {
+        if !b.is_ascii_digit() {
             return 16 * m + (k as u64);
         }
-        if 57 < b {
-            return 16 * m + (k as u64);
-        }
-        m = 10 * m + ((b - 48) as u64);
-        k += 1;
+        m = 10 * m + ((b - b'0') as u64);
     }
-    16 * m + (k as u64)
+    16 * m + 7
 }
 
 // A number of at most eight digits that begins with one of 1 to 9.
@@ -60,13 +41,10 @@ fn number_at(text: &[u8], at: usize) -> u64
     ensures { 0 < result → NumberAt text.now at result }
 {
     let b = text[at];
-    if b < 49 {
+    if b < b'1' || b'9' < b {
         return 0;
     }
-    if 57 < b {
-        return 0;
-    }
-    digits(text, at + 1, (b - 48) as u64) + 1
+    digits(text, at + 1, (b - b'0') as u64) + 1
 }
 
 // The word stands in the text from a place on.
@@ -74,14 +52,7 @@ fn stands(text: &[u8], at: usize, word: &[u8]) -> bool
     requires { at + length word.now ≤ length text.now }
     ensures { (result ≡ true → WordAt text.now at word.now) × (WordAt text.now at word.now → result ≡ true) }
 {
-    let mut k = 0;
-    while k < word.len() {
-        if text[at + k] != word[k] {
-            return false;
-        }
-        k += 1;
-    }
-    true
+    &text[at..at + word.len()] == word
 }
 
 // A run behind its bracket.
@@ -112,20 +83,14 @@ fn run_body(text: &[u8], at: usize) -> u64
 fn roomy(text: &[u8], at: usize, n: usize) -> bool
     ensures { result ≡ true → at + n ≤ length text.now }
 {
-    if text.len() < n {
-        return false;
-    }
-    at <= text.len() - n
+    n <= text.len() && at <= text.len() - n
 }
 
 // A run, where one may stand; twenty bytes are the most that it can have here.
 pub fn plain_run(text: &[u8], at: usize) -> u64
     ensures { 0 < result → PlainAt text.now at_runs at result }
 {
-    if !roomy(text, at, 20) {
-        return 0;
-    }
-    if !stands(text, at, b" (") {
+    if !roomy(text, at, 20) || !stands(text, at, b" (") {
         return 0;
     }
     let q = run_body(text, at + 2);
@@ -139,10 +104,7 @@ pub fn plain_run(text: &[u8], at: usize) -> u64
 fn first_run(text: &[u8], at: usize) -> u64
     ensures { 0 < result → PlainAt text.now at_first at result }
 {
-    if !roomy(text, at, 20) {
-        return 0;
-    }
-    if !stands(text, at, b"(") {
+    if !roomy(text, at, 20) || !stands(text, at, b"(") {
         return 0;
     }
     let q = run_body(text, at + 1);
@@ -170,20 +132,6 @@ pub fn run_length(q: u64) -> usize
     (q % 32) as usize
 }
 
-fn positive(m: u64) -> i64
-    requires { m < 10 ^ 8 }
-    ensures { result ≡ pos m }
-{
-    m as i64
-}
-
-fn negative(m: u64) -> i64
-    requires { m < 10 ^ 8 }
-    ensures { result ≡ neg_ℤ (pos m) }
-{
-    0 - (m as i64)
-}
-
 // A number with a blank behind it.
 fn number_and_blank(text: &[u8], at: usize) -> u64
     requires { at + 9 ≤ length text.now }
@@ -199,59 +147,49 @@ fn number_and_blank(text: &[u8], at: usize) -> u64
     q
 }
 
-// A number with or without a sign, and a blank.
-fn signed_at(text: &[u8], at: usize) -> Signed
+// A number with or without a sign, and the place behind the blank that follows it.
+fn signed_at(text: &[u8], at: usize) -> Option<(i64, usize)>
     requires { at + 10 ≤ length text.now }
     ensures { SignedAt text.now at result }
 {
-    if text[at] == 45 {
+    if text[at] == b'-' {
         let q = number_and_blank(text, at + 1);
         if q == 0 {
-            return Signed::None;
+            return None;
         }
-        return Signed::Read(negative(q / 16), at + 1 + ((q % 16) as usize) + 1);
+        return Some((-((q / 16) as i64), at + 1 + ((q % 16) as usize) + 1));
     }
     let q = number_and_blank(text, at);
     if q == 0 {
-        return Signed::None;
+        return None;
     }
-    Signed::Read(positive(q / 16), at + ((q % 16) as usize) + 1)
+    Some(((q / 16) as i64, at + ((q % 16) as usize) + 1))
 }
 
 // The bytes from a place on are `(row `, and twenty and more come behind them.
 fn opens(text: &[u8], at: usize) -> bool
     ensures { result ≡ true → Opens text.now at }
 {
-    if !roomy(text, at, 25) {
-        return false;
-    }
-    stands(text, at, b"(row ")
+    roomy(text, at, 25) && stands(text, at, b"(row ")
 }
 
-// The beginning of a row.
-fn range_at(text: &[u8], at: usize) -> Range
+// The beginning of a row up to its first run: the ends of its range, and the place behind it.
+fn range_at(text: &[u8], at: usize) -> Option<(i64, i64, usize)>
     ensures { RangeAt text.now at result }
 {
     if !opens(text, at) {
-        return Range::None;
+        return None;
     }
-    match signed_at(text, at + 5) {
-        Signed::Read(low, j) => match signed_at(text, j) {
-            Signed::Read(up, k) => Range::Read(low, up, k),
-            Signed::None => Range::None,
-        },
-        Signed::None => Range::None,
-    }
+    let (low, j) = signed_at(text, at + 5)?;
+    let (up, k) = signed_at(text, j)?;
+    Some((low, up, k))
 }
 
 // The bytes from a place on end a row.
 fn ends(text: &[u8], at: usize) -> bool
     ensures { result ≡ true → Ends text.now at }
 {
-    if !roomy(text, at, 2) {
-        return false;
-    }
-    stands(text, at, b")\n")
+    roomy(text, at, 2) && stands(text, at, b")\n")
 }
 
 // Reads on byte by byte.
@@ -260,41 +198,29 @@ fn byte_event(text: &[u8], s: State, at: usize) -> Event
     ensures { EventAt text.now s at result }
 {
     let mut n = s;
-    let mut i = at;
-    while i < text.len() {
+    for i in at..text.len() {
         match index_step(n, text[i]) {
-            Moved::To(m) => {
-                n = m;
-                i += 1;
-            }
-            Moved::Value(m, p, z) => {
-                return Event::Value(m, p, z, i + 1);
-            }
-            Moved::Closed(m) => {
-                return Event::Closed(m, i + 1);
-            }
-            Moved::Refuse => {
-                return Event::Refuse(n, i);
-            }
+            Moved::To(m) => n = m,
+            Moved::Value(m, p, z) => return Event::Value(m, p, z, i + 1),
+            Moved::Closed(m) => return Event::Closed(m, i + 1),
+            Moved::Refuse => return Event::Refuse(n, i),
         }
     }
-    Event::End(n, i)
+    Event::End(n, at.max(text.len()))
 }
 
 // Reads on where a row may begin.
 fn rows_event(text: &[u8], at: usize) -> Event
     ensures { EventAt text.now at_rows at result }
 {
-    match range_at(text, at) {
-        Range::Read(low, up, j) => {
-            let q = first_run(text, j);
-            if q == 0 {
-                return byte_event(text, State::Before(Turn::Rows), at);
-            }
-            Event::Row(low, up, run_left(q), run_right(q), j + run_length(q))
-        }
-        Range::None => byte_event(text, State::Before(Turn::Rows), at),
+    let Some((low, up, j)) = range_at(text, at) else {
+        return byte_event(text, State::Before(Turn::Rows), at);
+    };
+    let q = first_run(text, j);
+    if q == 0 {
+        return byte_event(text, State::Before(Turn::Rows), at);
     }
+    Event::Row(low, up, run_left(q), run_right(q), j + run_length(q))
 }
 
 // Reads on where a run may stand.
@@ -317,13 +243,8 @@ pub fn next_event(text: &[u8], s: State, at: usize) -> Event
     ensures { EventAt text.now s at result }
 {
     match s {
-        State::In(_, _) => byte_event(text, s, at),
-        State::At(_, _) => byte_event(text, s, at),
-        State::Before(t) => match t {
-            Turn::One(_) => byte_event(text, s, at),
-            Turn::Rows => rows_event(text, at),
-            Turn::Runs => runs_event(text, at),
-        },
-        State::Done => byte_event(text, s, at),
+        State::Before(Turn::Rows) => rows_event(text, at),
+        State::Before(Turn::Runs) => runs_event(text, at),
+        _ => byte_event(text, s, at),
     }
 }

@@ -1,11 +1,12 @@
 -- Laws of specs/Feed.
 use Rattle.meaning_numbers.proofs.Prelude.{◌≡◌, refl, ◌∙◌, Bool, true, false, cond, List, Some, ℕ, suc, ◌+◌, ◌<◌, ◌≤◌, arith, ℤ, length, get_or, drop, set, length-set}
+use Rattle.std.proofs.Common.{Ok, Err}
 use Rattle.meaning_text.proofs.Automaton.{going, failed, feed, feed-turn, feed-refuse, feed-end}
 use Rattle.numbers.specs.Narrow.{clamp}
 use Rattle.text_lines.specs.Follow.{Said, nothing_said, told, named, at, moved, step}
 use Rattle.text_lines.specs.{declared.Word.Word, declared.Field.Field, declared.State.State, declared.Moved.Moved, Step.line_step, Step.GoodState}
 use Rattle.text_lines.proofs.Follow.{stays}
-use Rattle.text_feed.specs.{declared.Values.Values, declared.Progress.Progress, declared.Feeding.Feeding, Keep.values_more, Keep.place_of, Keep.of_series, Keep.of_query, Keep.word_place, Keep.word_number, Keep.Holds, Feed.Ready, Feed.Comes}
+use Rattle.text_feed.specs.{declared.Values.Values, declared.Progress.Progress, Keep.values_more, Keep.place_of, Keep.of_series, Keep.of_query, Keep.word_place, Keep.word_number, Keep.Holds, Feed.Ready, Feed.Comes}
 use Rattle.text_feed.proofs.Keep.{holds-told, holds_named}
 
 -- ---- the loop over a piece
@@ -105,13 +106,13 @@ module _ {piece : List ℕ} {numbers₀ series₀ query₀ : List ℤ} {s₀ : S
 
 pub comes-failed : (p : Progress) (piece : List ℕ) (numbers series query numbers' series' query' : List ℤ) (m : ℕ) (g : Said) (kept asked : List ℤ)
     → (Holds kept asked g numbers p.series p.query series query → feed step (going (at p.state g) p.at) piece ≡ failed m)
-    → Comes p g kept asked piece numbers series query (Feeding.Failed m) numbers' series' query'
+    → Comes p g kept asked piece numbers series query (Err m) numbers' series' query'
 unfolding Comes
 comes-failed p piece numbers series query numbers' series' query' m g kept asked f o = rw (f o)
 
 pub comes-going : (p : Progress) (piece : List ℕ) (numbers series query numbers' series' query' : List ℤ) (s : State) (v q : Values) (i : ℕ)
     → Sofar piece numbers series query p.state p.series p.query p.at numbers' series' query' s v q i → length piece ≤ i
-    → (g : Said) (kept asked : List ℤ) → Comes p g kept asked piece numbers series query (Feeding.Going (record { state = s; at = p.at + i; series = v; query = q })) numbers' series' query'
+    → (g : Said) (kept asked : List ℤ) → Comes p g kept asked piece numbers series query (Ok (record { state = s; at = p.at + i; series = v; query = q })) numbers' series' query'
 unfolding Comes
 comes-going p piece numbers series query numbers' series' query' s v q i r h g kept asked o =
     let c = r.comes g kept asked o in

@@ -33,88 +33,51 @@ pub struct Progress {
     pub query: Values,
 }
 
-// The text goes on, or the place of its first bad byte.
-#[derive(Clone, Copy)]
-pub enum Feeding {
-    Going(Progress),
-    Failed(usize),
-}
-
 // The value at its place, where the buffer has it.
-fn store(out: &mut [i32], k: usize, z: i64)
-    ensures { out.new ≡ set out.old k (clamp z) }
+fn put<T: Copy>(out: &mut [T], k: usize, x: T)
+    ensures { out.new ≡ set out.old k x }
 {
     if k < out.len() {
-        out[k] = narrow(z);
+        out[k] = x;
     }
 }
 
+#[tactic(auto, unfolding(meaning_numbers::specs::Order::within))]
 fn in_limits(z: i64) -> bool
     ensures { result ≡ value_in z }
 {
-    if z < LEAST {
-        return false;
-    }
-    z <= GREATEST
+    LEAST <= z && z <= GREATEST
 }
 
 // One value more.
+#[tactic(auto, unfolding(crate::specs::Keep::values_more))]
 fn counted(v: Values, z: i64) -> Values
     requires { v.count < 2 ^ 63 }
     ensures { result ≡ values_more v z }
 {
-    let count = v.count;
-    let inside = v.inside;
-    if inside == count {
-        if in_limits(z) {
-            return Values {
-                count: count + 1,
-                inside: count + 1,
-            };
-        }
+    let count = v.count + 1;
+    if v.inside == v.count && in_limits(z) {
         return Values {
-            count: count + 1,
-            inside,
+            count,
+            inside: count,
         };
     }
     Values {
-        count: count + 1,
-        inside,
+        count,
+        inside: v.inside,
     }
 }
 
 fn in_series(p: Field) -> bool
     ensures { result ≡ of_series p }
 {
-    match p {
-        Field::Window => false,
-        Field::Width => false,
-        Field::Merge => false,
-        Field::Item => true,
-        Field::Band => false,
-        Field::Threshold => false,
-        Field::Scale => false,
-        Field::Shift => false,
-        Field::Asked => false,
-        Field::Entry => true,
-    }
+    matches!(p, Field::Item | Field::Entry)
 }
 
 fn in_query(p: Field) -> bool
     ensures { result ≡ of_query p }
 {
-    match p {
-        Field::Window => false,
-        Field::Width => false,
-        Field::Merge => false,
-        Field::Item => false,
-        Field::Band => false,
-        Field::Threshold => false,
-        Field::Scale => false,
-        Field::Shift => false,
-        Field::Asked => true,
-        Field::Entry => false,
-    }
+    matches!(p, Field::Asked)
 }
 
 // The value is kept and counted, where it is one of these.
@@ -123,12 +86,11 @@ fn kept(v: Values, z: i64, wanted: bool, out: &mut [i32]) -> Values
     ensures value { result ≡ cond wanted (values_more v z) v }
     ensures out_after { out.new ≡ cond wanted (set out.old v.count (clamp z)) out.old }
 {
-    if wanted {
-        let k = v.count;
-        store(out, k, z);
-        return counted(v, z);
+    if !wanted {
+        return v;
     }
-    v
+    put(out, v.count, narrow(z));
+    counted(v, z)
 }
 
 // The place of a single number of the program's lines: window, width, merge, b, E, a, h; no place of the eight for a value of the series or the query.
@@ -139,13 +101,11 @@ fn number_place(p: Field) -> usize
         Field::Window => 0,
         Field::Width => 1,
         Field::Merge => 2,
-        Field::Item => 8,
         Field::Band => 3,
         Field::Threshold => 4,
         Field::Scale => 5,
         Field::Shift => 6,
-        Field::Asked => 8,
-        Field::Entry => 8,
+        Field::Item | Field::Asked | Field::Entry => 8,
     }
 }
 
@@ -154,18 +114,8 @@ fn kind_place(w: Word) -> usize
     ensures { result ≡ word_place w }
 {
     match w {
-        Word::Window => 8,
-        Word::Width => 8,
-        Word::Merge => 8,
-        Word::Series => 8,
-        Word::Find => 8,
-        Word::Raw => 7,
-        Word::Normal => 7,
-        Word::Query => 8,
-        Word::End => 8,
-        Word::Line => 8,
-        Word::LineEnd => 8,
-        Word::Space(_) => 8,
+        Word::Raw | Word::Normal => 7,
+        _ => 8,
     }
 }
 
@@ -174,37 +124,19 @@ fn kind_number(w: Word) -> i64
     ensures { result ≡ word_number w }
 {
     match w {
-        Word::Window => 0,
-        Word::Width => 0,
-        Word::Merge => 0,
-        Word::Series => 0,
-        Word::Find => 0,
         Word::Raw => 1,
-        Word::Normal => 0,
-        Word::Query => 0,
-        Word::End => 0,
-        Word::Line => 0,
-        Word::LineEnd => 0,
-        Word::Space(_) => 0,
+        _ => 0,
     }
 }
 
-fn put_number(numbers: &mut [i64], k: usize, z: i64)
-    ensures { numbers.new ≡ set numbers.old k z }
-{
-    if k < numbers.len() {
-        numbers[k] = z;
-    }
-}
-
-// Reads on: a piece of the text that stands behind `p`.
+// Reads on: a piece of the text that stands behind `p`. An `Err` is the place of the text's first bad byte.
 pub fn feed(
     p: Progress,
     piece: &[u8],
     numbers: &mut [i64],
     series: &mut [i32],
     query: &mut [i32],
-) -> Feeding
+) -> Result<Progress, usize>
     requires { Ready p (length piece.now) }
     ensures good_feeding { GoodFeeding (p.at + length piece.now) result }
     ensures comes { (g : Said) (kept asked : List ℤ) → Comes p g kept asked piece.now numbers.old series.old query.old result numbers.new series.new query.new }
@@ -212,34 +144,25 @@ pub fn feed(
     let mut s = p.state;
     let mut v = p.series;
     let mut q = p.query;
-    let at = p.at;
-    let mut i = 0;
-    while i < piece.len() {
-        match line_step(s, piece[i]) {
-            Moved::To(n) => {
-                s = n;
-                i += 1;
-            }
+    for (i, &b) in piece.iter().enumerate() {
+        match line_step(s, b) {
+            Moved::To(n) => s = n,
             Moved::Value(n, place, z) => {
-                put_number(numbers, number_place(place), z);
+                put(numbers, number_place(place), z);
                 v = kept(v, z, in_series(place), series);
                 q = kept(q, z, in_query(place), query);
                 s = n;
-                i += 1;
             }
             Moved::Ended(n, w) => {
-                put_number(numbers, kind_place(w), kind_number(w));
+                put(numbers, kind_place(w), kind_number(w));
                 s = n;
-                i += 1;
             }
-            Moved::Refuse => {
-                return Feeding::Failed(at + i);
-            }
+            Moved::Refuse => return Err(p.at + i),
         }
     }
-    Feeding::Going(Progress {
+    Ok(Progress {
         state: s,
-        at: at + i,
+        at: p.at + piece.len(),
         series: v,
         query: q,
     })

@@ -1,13 +1,13 @@
 -- The automaton of the index text follows `index_form`: each state with what has been said so far has a reader for the rest of the text, and a byte takes it to the next. So the bytes of a text come to what `read_text` says.
 use Rattle.meaning_numbers.proofs.Prelude.{ℕ, suc, ◌+◌, ◌<◌, ltb-true, ltb-false, eqb, ℤ, pos, length, drop, Bool, true, false, cond, List, [], ◌∷◌, ◌++◌, append_assoc, append-nil, Option, None, Some, ◌≡◌, refl, ◌∙◌, arith}
 use Rattle.meaning_text.specs.{Bytes.bytes, Number.got, Number.bad, Form.Value, Form.many, Form.read, Read.read_text, Texts.index_form, Texts.row_form, Texts.run_form}
-use Rattle.meaning_text.proofs.Automaton.{going, feed, bad-here, over, at_rest, Follows, judged, form-comes}
+use Rattle.meaning_text.proofs.Automaton.{on-option, going, feed, bad-here, over, at_rest, Follows, judged, form-comes}
 use Rattle.meaning_text.proofs.Onward.{Rest, word_then, read_then, read-alone, lead-then, trail-then, both-then, many-then, many-ends, word_over, word_next, word-off, word-short}
 use Rattle.meaning_text.proofs.{Open.open_text, Form.filled, Form.clear_word, Form.clear, Form.follows, Form.firm, Form.opens, Form.decided, Reading.on-flag, Reading.begun}
 use Rattle.text_numbers.specs.{declared.Numeral.Numeral, Number.num_step, Number.whole}
-use Rattle.text_numbers.proofs.{Number.good-step, Number.on-taken, Number.on-whole, Onto.Onto, Onto.follows_by, Onward.number_then, Onward.number_more, Onward.number-stop, Onward.number-then}
+use Rattle.text_numbers.proofs.{Number.good-step, Onto.Onto, Onto.follows_by, Onward.number_then, Onward.number_more, Onward.number-stop, Onward.number-then}
 use Rattle.text_index.specs.Step.{word, behind, turn_after, pick, reach, closes, led, word_step, turn_step, end_step, number_step, index_step, GoodState}
-use Rattle.text_index.specs.{declared.Word.Word, declared.Field.Field, declared.Turn.Turn, declared.State.State, declared.Reached.Reached, declared.Moved.Moved}
+use Rattle.text_index.specs.{declared.Word.Word, declared.Field.Field, declared.Turn.Turn, declared.State.State, declared.Moved.Moved}
 use Rattle.text_index.proofs.Step.{word-long}
 
 -- ---- what has been said
@@ -201,15 +201,15 @@ not_first w = by (closing w)
     by (other f) = f 0
 
 -- where a byte leads
-abbrev pub turned : Reached → Said → Option Reading
-turned (Reached.There s) g = Some (at s g)
-turned Reached.Not g = None
+abbrev pub turned : Option State → Said → Option Reading
+turned (Some s) g = Some (at s g)
+turned None g = None
 
-pub led-moved : (x : Reached) (f : State → Moved) (g h : Said) → ((s : State) → moved (f s) g ≡ Some (at s h)) → moved (led x f) g ≡ turned x h
-led-moved (Reached.There s) f g h e = e s
-led-moved Reached.Not f g h e = refl
+pub led-moved : (x : Option State) (f : State → Moved) (g h : Said) → ((s : State) → moved (f s) g ≡ Some (at s h)) → moved (led x f) g ≡ turned x h
+led-moved (Some s) f g h e = e s
+led-moved None f g h e = refl
 
-pub word_moved : (x : Reached) (c : Bool) (g : Said) → moved (led x (λ s. cond c (Moved.Closed s) (Moved.To s))) g ≡ turned x (cond c (closed g) g)
+pub word_moved : (x : Option State) (c : Bool) (g : Said) → moved (led x (λ s. cond c (Moved.Closed s) (Moved.To s))) g ≡ turned x (cond c (closed g) g)
 word_moved x true g = led-moved x _ g _ (λ s. refl)
 word_moved x false g = led-moved x _ g g (λ s. refl)
 
@@ -304,9 +304,9 @@ unfolding index_step word_step turn_step end_step number_step rest
 onto (State.In w k) g b t h = rw (word_moved (reach w k b) (closes w k) g) (word-onto w k b h g t)
 onto (State.At p m) g b t h =
     let f : ℤ → Rest V' = λ z. after p (told p z g) in
-    on-taken (num_step m b)
+    on-option (num_step m b)
     (λ q i. rw (i, number_more f m b q t i) (good-step m b q i, refl))
-    (λ i. on-whole (whole m)
+    (λ i. on-option (whole m)
     (λ z j. rw (i, j, number-stop f m b t i, j, led-moved _ _ g (told p z g) (λ s. refl), after_turn p (told p z g)) (turn-onto (turn_after p) (told p z g) b t))
     (λ j. rw (i, j, number-stop f m b t i, j) bad-here))
 onto (State.Before s) g b t h = rw (led-moved _ _ g g (λ s. refl)) (turn-onto s g b t)
@@ -317,7 +317,7 @@ ends : (s : State) (g : Said) → GoodState s → rest_state s g [] ≡ at_rest 
 unfolding number_then
 ends (State.In w k) g h = word-short (word w) _ k h
 ends (State.At p n) g h =
-    on-whole (whole n)
+    on-option (whole n)
     (λ z j. rw (j, after_turn p (told p z g)) (turn-ends (turn_after p) (told p z g)))
     (λ j. rw j)
 ends (State.Before t) g h = turn-ends t g

@@ -3,9 +3,9 @@ use Rattle.meaning_numbers.proofs.Prelude.{ℕ, suc, ◌+◌, ◌<◌, ltb-true,
 use Rattle.meaning_text.specs.Bytes.{bytes}
 use Rattle.meaning_text.proofs.Reading.{on-flag}
 use Rattle.text_numbers.specs.Number.{num_step, whole}
-use Rattle.text_numbers.proofs.Number.{on-taken, on-whole}
+use Rattle.meaning_text.proofs.Automaton.{on-option}
 use Rattle.text_index.specs.Step.{word, behind, turn_after, pick, reach, closes, led, word_step, turn_step, end_step, number_step, index_step, GoodState}
-use Rattle.text_index.specs.{declared.Word.Word, declared.Field.Field, declared.Turn.Turn, declared.State.State, declared.Reached.Reached, declared.Moved.Moved}
+use Rattle.text_index.specs.{declared.Word.Word, declared.Field.Field, declared.Turn.Turn, declared.State.State, declared.Moved.Moved}
 use Rattle.text_index.proofs.Step.{word-long}
 use Rattle.text_index.proofs.Follow.{Said, told, closed, Reading, moved, step, turned, led-moved, word_moved, inside, not_first}
 
@@ -108,9 +108,9 @@ order-by : (s : State) (g : Said) (b : ℕ) → GoodState s → Order (state_par
 unfolding index_step word_step turn_step end_step number_step
 order-by (State.In w k) g b h o = rw (word_moved (reach w k b) (closes w k) g) (word-order w k b h g o)
 order-by (State.At p m) g b h o =
-    on-taken (num_step m b)
+    on-option (num_step m b)
     (λ q i. rw i o)
-    (λ i. on-whole (whole m)
+    (λ i. on-option (whole m)
     (λ z j. rw (i, j, led-moved _ _ g (told p z g) (λ s. refl)) (turn-order (turn_after p) b (told p z g) (order-told p z g o)))
     (λ j. rw (i, j) tt))
 order-by (State.Before t) g b h o = rw (led-moved _ _ g g (λ s. refl)) (turn-order t b g o)
@@ -128,17 +128,17 @@ Told g (Moved.Value n p z) = Order (place_part p) g
 Told g (Moved.Closed n) = Unit {0}
 Told g Moved.Refuse = Unit {0}
 
-told-led : (g : Said) (x : Reached) (f : State → Moved) → ((s : State) → Told g (f s)) → Told g (led x f)
-told-led g (Reached.There s) f h = h s
-told-led g Reached.Not f h = tt
+told-led : (g : Said) (x : Option State) (f : State → Moved) → ((s : State) → Told g (f s)) → Told g (led x f)
+told-led g (Some s) f h = h s
+told-led g None f h = tt
 
 told-by : (s : State) (b : ℕ) (g : Said) → Order (state_part s) g → Told g (index_step s b)
 unfolding index_step word_step turn_step end_step number_step
 told-by (State.In w k) b g o = told-led g (reach w k b) _ (λ s. on-flag (closes w k) (λ c. rw c tt) (λ c. rw c tt))
 told-by (State.At p m) b g o =
-    on-taken (num_step m b)
+    on-option (num_step m b)
     (λ r i. rw i tt)
-    (λ i. on-whole (whole m) (λ z j. rw (i, j) (told-led g (reach _ 0 b) _ (λ s. o))) (λ j. rw (i, j) tt))
+    (λ i. on-option (whole m) (λ z j. rw (i, j) (told-led g (reach _ 0 b) _ (λ s. o))) (λ j. rw (i, j) tt))
 told-by (State.Before t) b g o = told-led g (reach (pick t b) 0 b) _ (λ s. tt)
 told-by State.Done b g o = tt
 

@@ -1,26 +1,19 @@
 -- Laws of specs/Step.
-use Rattle.meaning_numbers.proofs.Prelude.{◌<◌, ◌≤◌, length, arith}
+use Rattle.meaning_numbers.proofs.Prelude.{◌<◌, length, arith}
 use Rattle.meaning_text.specs.Bytes.{bytes}
 use Rattle.text_index.specs.{declared.Word.Word, Step.word}
 
--- ---- the sizes of the words
-
-sizes : (w : Word) → (0 < length (word w)) × (length (word w) ≤ 15)
-unfolding word bytes
-sizes Word.Window = (omega arith, omega arith)
-sizes Word.Width = (omega arith, omega arith)
-sizes Word.Windows = (omega arith, omega arith)
-sizes Word.Head = (omega arith, omega arith)
-sizes Word.Row = (omega arith, omega arith)
-sizes Word.Up = (omega arith, omega arith)
-sizes Word.Run = (omega arith, omega arith)
-sizes Word.Right = (omega arith, omega arith)
-sizes Word.RunEnd = (omega arith, omega arith)
-sizes Word.RowEnd = (omega arith, omega arith)
-sizes Word.End = (omega arith, omega arith)
-
+-- every word has a byte
 pub word-long : (w : Word) → 0 < length (word w)
-word-long w = (sizes w).0
-
-pub word-short : (w : Word) → length (word w) ≤ 15
-word-short w = (sizes w).1
+unfolding word bytes
+word-long Word.Window = omega arith
+word-long Word.Width = omega arith
+word-long Word.Windows = omega arith
+word-long Word.Head = omega arith
+word-long Word.Row = omega arith
+word-long Word.Up = omega arith
+word-long Word.Run = omega arith
+word-long Word.Right = omega arith
+word-long Word.RunEnd = omega arith
+word-long Word.RowEnd = omega arith
+word-long Word.End = omega arith

@@ -1,8 +1,9 @@
 -- What a byte does to an index text: the words with what stands behind each, the numbers with what may come behind each, and the step of a state.
-use Rattle.std.specs.Prelude.{ℕ, ◌+◌, ◌<◌, ltb, eqb, ℤ, length, get_or, Bool, false, cond, List}
+use Rattle.std.specs.Prelude.{ℕ, ◌+◌, ◌<◌, ltb, eqb, ℤ, length, get_or, Bool, false, cond, List, None, Some}
+use Rattle.std.specs.declared.option.Option.{Option}
 use Rattle.meaning_text.specs.Bytes.{bytes}
-use Rattle.text_numbers.specs.{declared.Numeral.Numeral, Number.num_step, Number.whole, Number.by_taken, Number.by_whole, Number.NumGood}
-use Rattle.text_index.specs.{declared.Word.Word, declared.Field.Field, declared.Turn.Turn, declared.State.State, declared.Reached.Reached, declared.Moved.Moved}
+use Rattle.text_numbers.specs.{declared.Numeral.Numeral, Number.num_step, Number.whole, Number.by_option, Number.NumGood}
+use Rattle.text_index.specs.{declared.Word.Word, declared.Field.Field, declared.Turn.Turn, declared.State.State, declared.Moved.Moved}
 
 unfoldable pub word : Word → List ℕ
 word Word.Window = bytes "(index (window "
@@ -48,8 +49,8 @@ pick Turn.Rows b = cond (eqb b 40) Word.Row Word.End
 pick Turn.Runs b = cond (eqb b 32) Word.Run Word.RowEnd
 
 -- the byte is byte k of the word, and where that leads
-unfoldable pub reach : Word → ℕ → ℕ → Reached
-reach w k b = cond (eqb b (get_or (word w) k 0)) (Reached.There (cond (ltb (k + 1) (length (word w))) (State.In w (k + 1)) (behind w))) Reached.Not
+unfoldable pub reach : Word → ℕ → ℕ → Option State
+reach w k b = cond (eqb b (get_or (word w) k 0)) (Some (cond (ltb (k + 1) (length (word w))) (State.In w (k + 1)) (behind w))) None
 
 -- byte k of the word ends a row
 unfoldable pub closes : Word → ℕ → Bool
@@ -67,9 +68,9 @@ closes Word.End k = false
 
 -- ---- the step
 
-abbrev pub led : Reached → (State → Moved) → Moved
-led (Reached.There s) f = f s
-led Reached.Not f = Moved.Refuse
+abbrev pub led : Option State → (State → Moved) → Moved
+led (Some s) f = f s
+led None f = Moved.Refuse
 
 unfoldable pub word_step : Word → ℕ → ℕ → Moved
 word_step w k b = led (reach w k b) (λ s. cond (closes w k) (Moved.Closed s) (Moved.To s))
@@ -82,7 +83,7 @@ unfoldable pub end_step : Field → ℤ → ℕ → Moved
 end_step p z b = led (reach (pick (turn_after p) b) 0 b) (λ s. Moved.Value s p z)
 
 unfoldable pub number_step : Field → Numeral → ℕ → Moved
-number_step p n b = by_taken (num_step n b) (λ m. Moved.To (State.At p m)) (by_whole (whole n) (λ z. end_step p z b) Moved.Refuse)
+number_step p n b = by_option (num_step n b) (λ m. Moved.To (State.At p m)) (by_option (whole n) (λ z. end_step p z b) Moved.Refuse)
 
 unfoldable pub index_step : State → ℕ → Moved
 index_step (State.In w k) b = word_step w k b

@@ -1,11 +1,11 @@
 // The index text read byte by byte, `(index (window 2) (width 2) (windows 4)`, rows, `)`: the state is a value, and what the text says comes as events.
 #![tactic(auto)]
 
-ghost use Rattle.std.specs.Prelude.{◌≡◌, ◌<◌, length, get_or};
+ghost use Rattle.std.specs.Prelude.{◌≡◌, ◌<◌, length};
 ghost use Rattle.text_numbers.specs.Number.{NumGood};
 ghost use Rattle.text_index.specs.Step.{word, behind, turn_after, pick, reach, closes, word_step, turn_step, end_step, number_step, index_step, GoodState};
 
-use text_numbers::{Numeral, Taken, Whole, letter, number_step, number_value};
+use text_numbers::{Numeral, number_step, number_value};
 
 // The fixed words, by what stands behind each: a number, a row or the end, a run or the row's end.
 #[derive(Clone, Copy)]
@@ -52,13 +52,6 @@ pub enum State {
     Done,
 }
 
-// Where a byte of a word leads, if it is the word's byte.
-#[derive(Clone, Copy)]
-pub enum Reached {
-    There(State),
-    Not,
-}
-
 // What a byte does to a text: it goes on; it ended a number; it ended a row; no text could have it there.
 #[derive(Clone, Copy)]
 pub enum Moved {
@@ -68,41 +61,23 @@ pub enum Moved {
     Refuse,
 }
 
+// The bytes of a word.
 #[tactic(auto, unfolding(crate::specs::Step::word, meaning_text::specs::Bytes::bytes))]
-fn word_byte(w: Word, k: usize) -> u8
-    ensures { result ≡ get_or (word w) k 0 }
+fn letters(w: Word) -> &'static [u8]
+    ensures { result.now ≡ word w }
 {
     match w {
-        Word::Window => letter(b"(index (window ", k),
-        Word::Width => letter(b") (width ", k),
-        Word::Windows => letter(b") (windows ", k),
-        Word::Head => letter(b")\n", k),
-        Word::Row => letter(b"(row ", k),
-        Word::Up => letter(b" ", k),
-        Word::Run => letter(b" (", k),
-        Word::Right => letter(b" ", k),
-        Word::RunEnd => letter(b")", k),
-        Word::RowEnd => letter(b")\n", k),
-        Word::End => letter(b")\n", k),
-    }
-}
-
-#[tactic(auto, unfolding(crate::specs::Step::word, meaning_text::specs::Bytes::bytes))]
-fn word_length(w: Word) -> usize
-    ensures { result ≡ length (word w) }
-{
-    match w {
-        Word::Window => 15,
-        Word::Width => 9,
-        Word::Windows => 11,
-        Word::Head => 2,
-        Word::Row => 5,
-        Word::Up => 1,
-        Word::Run => 2,
-        Word::Right => 1,
-        Word::RunEnd => 1,
-        Word::RowEnd => 2,
-        Word::End => 2,
+        Word::Window => b"(index (window ",
+        Word::Width => b") (width ",
+        Word::Windows => b") (windows ",
+        Word::Head => b")\n",
+        Word::Row => b"(row ",
+        Word::Up => b" ",
+        Word::Run => b" (",
+        Word::Right => b" ",
+        Word::RunEnd => b")",
+        Word::RowEnd => b")\n",
+        Word::End => b")\n",
     }
 }
 
@@ -149,33 +124,27 @@ fn picked(t: Turn, b: u8) -> Word
 {
     match t {
         Turn::One(w) => w,
-        Turn::Rows => {
-            if b == 40 {
-                return Word::Row;
-            }
-            Word::End
-        }
-        Turn::Runs => {
-            if b == 32 {
-                return Word::Run;
-            }
-            Word::RowEnd
-        }
+        Turn::Rows if b == b'(' => Word::Row,
+        Turn::Rows => Word::End,
+        Turn::Runs if b == b' ' => Word::Run,
+        Turn::Runs => Word::RowEnd,
     }
 }
 
-// The byte is byte k of the word, and where that leads.
-fn arrive(w: Word, k: usize, b: u8) -> Reached
+// Where byte k of the word leads, if the byte is it.
+#[tactic(auto, unfolding(crate::specs::Step::reach))]
+fn arrive(w: Word, k: usize, b: u8) -> Option<State>
     requires { k < length (word w) }
     ensures { result ≡ reach w k b }
 {
-    if b == word_byte(w, k) {
-        if k + 1 < word_length(w) {
-            return Reached::There(State::In(w, k + 1));
-        }
-        return Reached::There(word_end(w));
+    let word = letters(w);
+    if b != word[k] {
+        return None;
     }
-    Reached::Not
+    if k + 1 < word.len() {
+        return Some(State::In(w, k + 1));
+    }
+    Some(word_end(w))
 }
 
 // Byte k of the word ends a row.
@@ -183,64 +152,52 @@ fn arrive(w: Word, k: usize, b: u8) -> Reached
 fn ends_row(w: Word, k: usize) -> bool
     ensures { result ≡ closes w k }
 {
-    match w {
-        Word::Window => false,
-        Word::Width => false,
-        Word::Windows => false,
-        Word::Head => false,
-        Word::Row => false,
-        Word::Up => false,
-        Word::Run => false,
-        Word::Right => false,
-        Word::RunEnd => false,
-        Word::RowEnd => k == 1,
-        Word::End => false,
-    }
+    matches!(w, Word::RowEnd) && k == 1
 }
 
+#[tactic(auto, unfolding(crate::specs::Step::word_step))]
 fn step_word(w: Word, k: usize, b: u8) -> Moved
     requires { k < length (word w) }
     ensures { result ≡ word_step w k b }
 {
     match arrive(w, k, b) {
-        Reached::There(s) => {
-            if ends_row(w, k) {
-                return Moved::Closed(s);
-            }
-            Moved::To(s)
-        }
-        Reached::Not => Moved::Refuse,
+        Some(s) if ends_row(w, k) => Moved::Closed(s),
+        Some(s) => Moved::To(s),
+        None => Moved::Refuse,
     }
 }
 
+#[tactic(auto, unfolding(crate::specs::Step::turn_step))]
 fn step_turn(t: Turn, b: u8) -> Moved
     ensures { result ≡ turn_step t b }
 {
     match arrive(picked(t, b), 0, b) {
-        Reached::There(s) => Moved::To(s),
-        Reached::Not => Moved::Refuse,
+        Some(s) => Moved::To(s),
+        None => Moved::Refuse,
     }
 }
 
 // The byte behind a number that has ended.
+#[tactic(auto, unfolding(crate::specs::Step::end_step))]
 fn step_end(p: Field, z: i64, b: u8) -> Moved
     ensures { result ≡ end_step p z b }
 {
     match arrive(picked(number_end(p), b), 0, b) {
-        Reached::There(s) => Moved::Value(s, p, z),
-        Reached::Not => Moved::Refuse,
+        Some(s) => Moved::Value(s, p, z),
+        None => Moved::Refuse,
     }
 }
 
+#[tactic(auto, unfolding(crate::specs::Step::number_step))]
 fn step_number(p: Field, n: Numeral, b: u8) -> Moved
     requires { NumGood n }
     ensures { result ≡ number_step p n b }
 {
     match number_step(n, b) {
-        Taken::More(m) => Moved::To(State::At(p, m)),
-        Taken::Stop => match number_value(n) {
-            Whole::Value(z) => step_end(p, z, b),
-            Whole::Partial => Moved::Refuse,
+        Some(m) => Moved::To(State::At(p, m)),
+        None => match number_value(n) {
+            Some(z) => step_end(p, z, b),
+            None => Moved::Refuse,
         },
     }
 }

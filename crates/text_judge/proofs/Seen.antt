@@ -1,5 +1,6 @@
 -- The tally is a view of what has been said, so that a pass over a text comes to the text's own head and rows (`text-scanned`); its counts stay small (`tell-fits`, `shut-fits`).
 use Rattle.meaning_numbers.proofs.Prelude.{◌≡◌, refl, sym, ap, ◌∙◌, ◌&&◌, List, [], ◌∷◌, ◌++◌, ℕ, ◌+◌, ◌≤◌, arith, ℤ, pos, lt_z, zmach, z-abs}
+use Rattle.std.proofs.Common.{Result, Ok, Err}
 use Rattle.meaning_rows.specs.{declared.Head.Head, Index.Entry}
 use Rattle.meaning_text.specs.{Form.Value, Read.Verdict, Read.fine, Read.unfit, Read.read_text, Texts.index_form, Texts.row_form}
 use Rattle.meaning_text.proofs.{Automaton.verdict_of, Reading.on-flag}
@@ -8,7 +9,7 @@ use Rattle.rows_judge.proofs.Scan.{both, run_good, good-run}
 use Rattle.text_index.specs.declared.Field.{Field}
 use Rattle.text_index.proofs.{Follow.Said, Follow.told, Follow.closed, Follow.value, Order.place_part, Order.Order, View.end_of, View.Whole, View.text-viewed}
 use Rattle.text_judge.specs.Tally.{no_runs, run_next, runs_from, Sound, no_rows, row_next, rows_from, start_tally, tell_tally, shut_tally, Fits, head_held, scanned_text, scanned, kept_scanned}
-use Rattle.text_judge.specs.{declared.Runs.Runs, declared.Rows.Rows, declared.Tally.Tally, declared.Scanned.Scanned}
+use Rattle.text_judge.specs.{declared.Runs.Runs, declared.Rows.Rows, declared.Tally.Tally}
 
 -- ---- one more at the end
 
@@ -46,12 +47,12 @@ pub shuts : (g : Said) → tally_of (closed g) ≡ shut_tally (tally_of g)
 unfolding shut_tally runs_from
 shuts g = rw (rows_more _ no_rows g.rows (g.low, (g.up, g.runs))) refl
 
-abbrev out_of : Tally → Scanned
-out_of t = Scanned.Fine t.head t.rows
+abbrev out_of : Tally → Result (Head × Rows) ℕ
+out_of t = Ok (t.head, t.rows)
 
-abbrev said : Verdict Scanned → Scanned
+abbrev said : Verdict (Result (Head × Rows) ℕ) → Result (Head × Rows) ℕ
 said (fine s) = s
-said (unfit p) = Scanned.Bad p
+said (unfit p) = Err p
 
 kept-said : (x : Verdict Tally) → kept_scanned x ≡ said (verdict_of out_of x)
 kept-said (fine t) = refl

@@ -1,12 +1,12 @@
 -- What is known of an index text so far: its head, its closed rows and its open row, in numbers of the types that the code has, and how a number and a row's end move it.
-use Rattle.std.specs.Prelude.{ℕ, ◌+◌, ◌-◌, ◌≤◌, leb, ℤ, pos, Bool, true, false, cond, ◌&&◌, List, [], ◌∷◌}
+use Rattle.std.specs.Prelude.{ℕ, ◌+◌, ◌-◌, ◌≤◌, leb, ℤ, pos, Bool, true, false, cond, ◌&&◌, List, [], ◌∷◌, Result, Ok, Err}
 use Rattle.meaning_curves.specs.Limits.{lowest_end}
 use Rattle.meaning_rows.specs.{declared.Head.Head, Index.Entry, Index.lent, Judge.range_good}
 use Rattle.meaning_text.specs.{Form.Value, Read.Verdict, Read.fine, Read.unfit, Texts.index_form, Texts.row_form}
 use Rattle.numbers.specs.Narrow.{clamp, held}
 use Rattle.rows_judge.proofs.Scan.{run_good}
 use Rattle.text_index.specs.declared.Field.{Field}
-use Rattle.text_judge.specs.{declared.Runs.Runs, declared.Open.Open, declared.Rows.Rows, declared.Tally.Tally, declared.Scanned.Scanned}
+use Rattle.text_judge.specs.{declared.Runs.Runs, declared.Open.Open, declared.Rows.Rows, declared.Tally.Tally}
 
 -- ---- runs
 
@@ -95,13 +95,13 @@ abbrev pub head_held : Value index_form → Head
 head_held v = record { window = held v.0; width = held v.1.0; windows = held v.1.1.0 }
 
 -- head and rows of a text that can be read
-abbrev pub scanned_text : Value index_form → Scanned
-scanned_text v = Scanned.Fine (head_held v) (rows_from (head_held v) no_rows v.1.1.1)
+abbrev pub scanned_text : Value index_form → Result (Head × Rows) ℕ
+scanned_text v = Ok (head_held v, rows_from (head_held v) no_rows v.1.1.1)
 
-abbrev pub scanned : Verdict (Value index_form) → Scanned
+abbrev pub scanned : Verdict (Value index_form) → Result (Head × Rows) ℕ
 scanned (fine v) = scanned_text v
-scanned (unfit p) = Scanned.Bad p
+scanned (unfit p) = Err p
 
-abbrev pub kept_scanned : Verdict Tally → Scanned
-kept_scanned (fine t) = Scanned.Fine t.head t.rows
-kept_scanned (unfit p) = Scanned.Bad p
+abbrev pub kept_scanned : Verdict Tally → Result (Head × Rows) ℕ
+kept_scanned (fine t) = Ok (t.head, t.rows)
+kept_scanned (unfit p) = Err p

@@ -14,7 +14,7 @@ ghost use Rattle.text_judge.specs.Judged.{judged_rows};
 use meaning_curves::LOWEST_END;
 use meaning_rows::{Head, Row};
 use numbers::{hold, narrow};
-use rows_judge::{Judged, head_good, range_good, run_good, total_good};
+use rows_judge::{head_good, range_good, run_good, total_good};
 use text_event::{Event, next_event, plain_run, run_left, run_length, run_right};
 use text_index::{Field, State, Turn, Word};
 
@@ -61,13 +61,6 @@ pub struct TallyAt {
     pub at: usize,
 }
 
-// A text cannot be read from a place on; or what its head and rows come to.
-#[derive(Clone, Copy)]
-pub enum Scanned {
-    Bad(usize),
-    Fine(Head, Rows),
-}
-
 pub fn no_runs() -> Runs
     ensures { result ≡ no_runs }
 {
@@ -92,6 +85,7 @@ pub fn no_rows() -> Rows
 }
 
 // One run more.
+#[tactic(auto, unfolding(crate::specs::Tally::run_next))]
 pub fn more_run(windows: u32, s: Runs, l: u32, r: u32) -> Runs
     requires sound { Sound s }
     requires count_bound { s.count < 2 ^ 63 }
@@ -99,7 +93,7 @@ pub fn more_run(windows: u32, s: Runs, l: u32, r: u32) -> Runs
 {
     let count = s.count + 1;
     let fine = run_good(windows as u64, s.least, l as u64, r as u64);
-    if s.good & fine {
+    if s.good && fine {
         return Runs {
             count,
             good: true,
@@ -116,29 +110,28 @@ pub fn more_run(windows: u32, s: Runs, l: u32, r: u32) -> Runs
 }
 
 // The open row is closed.
+#[tactic(auto, unfolding(crate::specs::Tally::row_next))]
 pub fn close_row(head: Head, s: Rows, o: Open) -> Rows
     requires rows_bound { s.rows < 2 ^ 63 }
     requires count_bound { s.runs + o.runs.count < 2 ^ 63 }
     ensures { result ≡ row_next head s o.low o.up o.runs }
 {
-    let low = o.low;
-    let up = o.up;
     let count = o.runs.count;
     let total = o.runs.total;
     let r = Row {
-        low,
-        up,
+        low: o.low,
+        up: o.up,
         first: 0,
         runs: 0,
     };
     let range = range_good(head, s.least, r);
     let most = total_good(head.windows as usize, s.taken, total);
-    if s.good & (range & ((1 <= count) & (o.runs.good & most))) {
+    if s.good && range && 1 <= count && o.runs.good && most {
         return Rows {
             good: true,
             rows: s.rows + 1,
             runs: s.runs + count,
-            least: up,
+            least: o.up,
             taken: s.taken + total,
         };
     }
@@ -154,31 +147,32 @@ pub fn close_row(head: Head, s: Rows, o: Open) -> Rows
 fn with_head(t: Tally, window: u32, width: u32, windows: u32) -> Tally
     ensures { result ≡ with_head (record { window = window; width = width; windows = windows }) t }
 {
-    let rows = t.rows;
-    let row = t.row;
-    let head = Head {
-        window,
-        width,
-        windows,
-    };
-    Tally { head, rows, row }
+    Tally {
+        head: Head {
+            window,
+            width,
+            windows,
+        },
+        ..t
+    }
 }
 
 fn with_row(t: Tally, low: i32, up: i32, left: u32, runs: Runs) -> Tally
     ensures { result ≡ with_open (record { low = low; up = up; left = left; runs = runs }) t }
 {
-    let head = t.head;
-    let rows = t.rows;
-    let row = Open {
-        low,
-        up,
-        left,
-        runs,
-    };
-    Tally { head, rows, row }
+    Tally {
+        row: Open {
+            low,
+            up,
+            left,
+            runs,
+        },
+        ..t
+    }
 }
 
 // What a number says.
+#[tactic(auto, unfolding(crate::specs::Tally::tell_tally))]
 pub fn tell(t: Tally, p: Field, z: i64) -> Tally
     requires sound { Sound t.row.runs }
     requires count_bound { t.row.runs.count < 2 ^ 63 }
@@ -208,12 +202,12 @@ pub fn tell_run(t: Tally, l: u32, r: u32) -> Tally
     ensures { result ≡ told_run l r t }
 {
     let o = t.row;
-    let runs = o.runs;
-    let more = more_run(t.head.windows, runs, l, r);
-    with_row(t, o.low, o.up, l, more)
+    let runs = more_run(t.head.windows, o.runs, l, r);
+    with_row(t, o.low, o.up, l, runs)
 }
 
 // What a row's range and its first run say.
+#[tactic(auto, unfolding(crate::specs::Tally::tell_tally))]
 pub fn tell_row(t: Tally, low: i64, up: i64, l: u32, r: u32) -> Tally
     requires sound { Sound t.row.runs }
     requires count_bound { t.row.runs.count < 2 ^ 63 }
@@ -240,23 +234,19 @@ pub fn tell_runs(text: &[u8], t: Tally, at: usize) -> TallyAt
 }
 
 // What a row's end says.
+#[tactic(auto, unfolding(crate::specs::Tally::shut_tally))]
 pub fn shut(t: Tally) -> Tally
     requires rows_bound { t.rows.rows < 2 ^ 63 }
     requires count_bound { t.rows.runs + t.row.runs.count < 2 ^ 63 }
     ensures { result ≡ shut_tally t }
 {
-    let head = t.head;
-    let rows = t.rows;
-    let o = t.row;
     Tally {
-        head,
-        rows: close_row(head, rows, o),
+        rows: close_row(t.head, t.rows, t.row),
         row: Open {
-            low: o.low,
-            up: o.up,
-            left: o.left,
             runs: no_runs(),
+            ..t.row
         },
+        ..t
     }
 }
 
@@ -281,21 +271,17 @@ pub fn no_tally() -> Tally
 }
 
 // The end of a text of `at` bytes.
-fn scan_end(s: State, t: Tally, at: usize) -> Scanned
+fn scan_end(s: State, t: Tally, at: usize) -> Result<(Head, Rows), usize>
     ensures { result ≡ kept_scanned (at_end (kept_at s t) at) }
 {
-    let head = t.head;
-    let rows = t.rows;
     match s {
-        State::In(_, _) => Scanned::Bad(at),
-        State::At(_, _) => Scanned::Bad(at),
-        State::Before(_) => Scanned::Bad(at),
-        State::Done => Scanned::Fine(head, rows),
+        State::In(_, _) | State::At(_, _) | State::Before(_) => Err(at),
+        State::Done => Ok((t.head, t.rows)),
     }
 }
 
-// A whole text.
-pub fn scan(text: &[u8]) -> Scanned
+// A whole text: its head and rows; an `Err` is the place of its first bad byte.
+pub fn scan(text: &[u8]) -> Result<(Head, Rows), usize>
     ensures { result ≡ scanned (read_text index_form text.now) }
 {
     let mut s = State::In(Word::Window, 0);
@@ -324,25 +310,22 @@ pub fn scan(text: &[u8]) -> Scanned
                 t = shut(t);
                 i = at;
             }
-            Event::Refuse(_, at) => {
-                return Scanned::Bad(at);
-            }
-            Event::End(n, at) => {
-                return scan_end(n, t, at);
-            }
+            Event::Refuse(_, at) => return Err(at),
+            Event::End(n, at) => return scan_end(n, t, at),
         }
     }
 }
 
-// What judging a text said: the first bad row, 0 for the head, or how many windows stand in runs.
-pub fn judged_rows(head: Head, c: Rows) -> Judged
+// What judging a text said: how many windows stand in runs, or an `Err` with the first bad row, 0 for the head.
+#[tactic(auto, unfolding(crate::specs::Judged::judged_rows))]
+pub fn judged_rows(head: Head, c: Rows) -> Result<usize, usize>
     ensures { result ≡ judged_rows head c }
 {
     if !head_good(head) {
-        return Judged::Bad { row: 0 };
+        return Err(0);
     }
     if !c.good {
-        return Judged::Bad { row: c.rows };
+        return Err(c.rows);
     }
-    Judged::Fine { total: c.taken }
+    Ok(c.taken)
 }

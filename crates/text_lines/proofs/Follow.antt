@@ -1,14 +1,14 @@
 -- The automaton of the lines follows `series_form` and `program_form`, each from its own start: each state with what has been said so far has a reader for the rest of the text, and a byte takes it to the next. So the bytes of a text come to what `read_text` says.
 use Rattle.meaning_numbers.proofs.Prelude.{ℕ, suc, ◌+◌, ◌<◌, ltb-true, ltb-false, ltb, eqb, ℤ, length, drop, Bool, true, false, cond, List, [], ◌∷◌, append_assoc, append-nil, Option, None, Some, ◌≡◌, refl, ◌∙◌, arith}
 use Rattle.meaning_text.specs.{Bytes.bytes, Number.got, Number.bad, Form.number, Form.one_of, Form.lead, Form.read, Read.read_text, Texts.values_form, Texts.series_form, Texts.program_form}
-use Rattle.meaning_text.proofs.Automaton.{going, feed, bad-here, over, at_rest, Follows, judged, form-comes}
+use Rattle.meaning_text.proofs.Automaton.{on-option, going, feed, bad-here, over, at_rest, Follows, judged, form-comes}
 use Rattle.meaning_text.proofs.Onward.{Rest, word_then, read_then, word-both, read-alone, lead-then, trail-then, both-then, one_then, one-ends, many-then, many-ends, word_over, word_next, word-off, word-short}
 use Rattle.meaning_text.proofs.{Open.open_text, Form.filled, Form.clear_word, Form.clear, Form.follows, Form.firm, Form.opens, Form.decided, Reading.on-flag, Reading.begun}
 use Rattle.text_numbers.specs.{declared.Numeral.Numeral, Number.num_step, Number.whole}
-use Rattle.text_numbers.proofs.{Number.good-step, Number.on-taken, Number.on-whole, Onto.Onto, Onto.follows_by, Onward.number_then, Onward.number_more, Onward.number-stop, Onward.number-then}
+use Rattle.text_numbers.proofs.{Number.good-step, Onto.Onto, Onto.follows_by, Onward.number_then, Onward.number_more, Onward.number-stop, Onward.number-then}
 use Rattle.text_lines.specs.Follow.{Said, nothing_said, series_more, query_more, told, kind_said, named, Reading, at, moved, step, program_start, series_start, series_value, program_value}
 use Rattle.text_lines.specs.Step.{word, behind, turn_after, pick, reach, led, word_step, turn_step, end_step, number_step, line_step, GoodState}
-use Rattle.text_lines.specs.{declared.Word.Word, declared.Field.Field, declared.Turn.Turn, declared.State.State, declared.Reached.Reached, declared.Moved.Moved}
+use Rattle.text_lines.specs.{declared.Word.Word, declared.Field.Field, declared.Turn.Turn, declared.State.State, declared.Moved.Moved}
 use Rattle.text_lines.proofs.Step.{word-long}
 
 -- ---- the automaton
@@ -114,15 +114,15 @@ module _ {A : Type 0} (fin : Said → A) where
 -- ---- words
 
 -- where a byte leads
-abbrev turned : Reached → Said → Option Reading
-turned (Reached.There s) g = Some (at s g)
-turned Reached.Not g = None
+abbrev turned : Option State → Said → Option Reading
+turned (Some s) g = Some (at s g)
+turned None g = None
 
-led-moved : (x : Reached) (f : State → Moved) (g h : Said) → ((s : State) → moved (f s) g ≡ Some (at s h)) → moved (led x f) g ≡ turned x h
-led-moved (Reached.There s) f g h e = e s
-led-moved Reached.Not f g h e = refl
+led-moved : (x : Option State) (f : State → Moved) (g h : Said) → ((s : State) → moved (f s) g ≡ Some (at s h)) → moved (led x f) g ≡ turned x h
+led-moved (Some s) f g h e = e s
+led-moved None f g h e = refl
 
-word_moved : (x : Reached) (more : Bool) (w : Word) (g : Said) → moved (led x (λ s. cond more (Moved.To s) (Moved.Ended s w))) g ≡ turned x (cond more g (named w g))
+word_moved : (x : Option State) (more : Bool) (w : Word) (g : Said) → moved (led x (λ s. cond more (Moved.To s) (Moved.Ended s w))) g ≡ turned x (cond more g (named w g))
 word_moved x true w g = led-moved x _ g g (λ s. refl)
 word_moved x false w g = led-moved x _ g _ (λ s. refl)
 
@@ -247,9 +247,9 @@ module _ {A : Type 0} (fin : Said → A) where
   onto (State.In w k) g b t h = rw (word_moved _ (ltb (k + 1) (length (word w))) w g) (word-onto w k b h g t)
   onto (State.At p m) g b t h =
       let f : ℤ → Rest A = λ z. after fin p (told p z g) in
-      on-taken (num_step m b)
+      on-option (num_step m b)
       (λ q i. rw (i, number_more f m b q t i) (good-step m b q i, refl))
-      (λ i. on-whole (whole m)
+      (λ i. on-option (whole m)
       (λ z j. rw (i, j, number-stop f m b t i, j, led-moved (reach (pick (turn_after p) b) 0 b) _ g (told p z g) (λ s. refl), after_turn p (told p z g)) (turn-onto (turn_after p) (told p z g) b t))
       (λ j. rw (i, j, number-stop f m b t i, j) bad-here))
   onto (State.Before s) g b t h = rw (led-moved (reach (pick s b) 0 b) _ g g (λ s. refl)) (turn-onto s g b t)
@@ -260,7 +260,7 @@ module _ {A : Type 0} (fin : Said → A) where
   unfolding number_then
   ends (State.In w k) g h = word-short _ _ k h
   ends (State.At p n) g h =
-      on-whole (whole n)
+      on-option (whole n)
       (λ z j. rw (j, after_turn p _) (turn-ends (turn_after p) _))
       (λ j. rw j)
   ends (State.Before t) g h = turn-ends t g

@@ -1,8 +1,9 @@
 -- What a byte does to a series line or to the program's lines: the words with what stands behind each, the numbers with what may come behind each, and the step of a state.
-use Rattle.std.specs.Prelude.{ℕ, ◌+◌, ◌<◌, ltb, eqb, ℤ, length, get_or, cond, List}
+use Rattle.std.specs.Prelude.{ℕ, ◌+◌, ◌<◌, ltb, eqb, ℤ, length, get_or, cond, List, None, Some}
+use Rattle.std.specs.declared.option.Option.{Option}
 use Rattle.meaning_text.specs.Bytes.{bytes}
-use Rattle.text_numbers.specs.{declared.Numeral.Numeral, Number.num_step, Number.whole, Number.by_taken, Number.by_whole, Number.NumGood}
-use Rattle.text_lines.specs.{declared.Word.Word, declared.Field.Field, declared.Turn.Turn, declared.State.State, declared.Reached.Reached, declared.Moved.Moved}
+use Rattle.text_numbers.specs.{declared.Numeral.Numeral, Number.num_step, Number.whole, Number.by_option, Number.NumGood}
+use Rattle.text_lines.specs.{declared.Word.Word, declared.Field.Field, declared.Turn.Turn, declared.State.State, declared.Moved.Moved}
 
 unfoldable pub word : Word → List ℕ
 word Word.Window = bytes "(window "
@@ -55,14 +56,14 @@ pick Turn.Query b = cond (eqb b 32) (Word.Space Field.Asked) Word.End
 pick Turn.Line b = cond (eqb b 32) (Word.Space Field.Entry) Word.LineEnd
 
 -- the byte is byte k of the word, and where that leads
-unfoldable pub reach : Word → ℕ → ℕ → Reached
-reach w k b = cond (eqb b (get_or (word w) k 0)) (Reached.There (cond (ltb (k + 1) (length (word w))) (State.In w (k + 1)) (behind w))) Reached.Not
+unfoldable pub reach : Word → ℕ → ℕ → Option State
+reach w k b = cond (eqb b (get_or (word w) k 0)) (Some (cond (ltb (k + 1) (length (word w))) (State.In w (k + 1)) (behind w))) None
 
 -- ---- the step
 
-abbrev pub led : Reached → (State → Moved) → Moved
-led (Reached.There s) f = f s
-led Reached.Not f = Moved.Refuse
+abbrev pub led : Option State → (State → Moved) → Moved
+led (Some s) f = f s
+led None f = Moved.Refuse
 
 unfoldable pub word_step : Word → ℕ → ℕ → Moved
 word_step w k b = led (reach w k b) (λ s. cond (ltb (k + 1) (length (word w))) (Moved.To s) (Moved.Ended s w))
@@ -75,7 +76,7 @@ unfoldable pub end_step : Field → ℤ → ℕ → Moved
 end_step p z b = led (reach (pick (turn_after p) b) 0 b) (λ s. Moved.Value s p z)
 
 unfoldable pub number_step : Field → Numeral → ℕ → Moved
-number_step p n b = by_taken (num_step n b) (λ m. Moved.To (State.At p m)) (by_whole (whole n) (λ z. end_step p z b) Moved.Refuse)
+number_step p n b = by_option (num_step n b) (λ m. Moved.To (State.At p m)) (by_option (whole n) (λ z. end_step p z b) Moved.Refuse)
 
 unfoldable pub line_step : State → ℕ → Moved
 line_step (State.In w k) b = word_step w k b

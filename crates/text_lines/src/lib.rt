@@ -1,11 +1,11 @@
 // The series line and the five lines of the search program read byte by byte: the state is a value, and what the text says comes as events.
 #![tactic(auto)]
 
-ghost use Rattle.std.specs.Prelude.{◌≡◌, ◌<◌, length, get_or};
+ghost use Rattle.std.specs.Prelude.{◌≡◌, ◌<◌, length};
 ghost use Rattle.text_numbers.specs.Number.{NumGood};
 ghost use Rattle.text_lines.specs.Step.{word, behind, turn_after, pick, reach, word_step, turn_step, end_step, number_step, line_step, GoodState};
 
-use text_numbers::{Numeral, Taken, Whole, letter, number_step, number_value};
+use text_numbers::{Numeral, number_step, number_value};
 
 // The fixed words: the program's, those of a series line by itself, and a single space in front of a number.
 #[derive(Clone, Copy)]
@@ -58,13 +58,6 @@ pub enum State {
     Done,
 }
 
-// Where a byte of a word leads, if it is the word's byte.
-#[derive(Clone, Copy)]
-pub enum Reached {
-    There(State),
-    Not,
-}
-
 // What a byte does to a text: it goes on; it ended a number; it ended a word of more than one byte; no text could have it there.
 #[derive(Clone, Copy)]
 pub enum Moved {
@@ -74,43 +67,24 @@ pub enum Moved {
     Refuse,
 }
 
+// The bytes of a word.
 #[tactic(auto, unfolding(crate::specs::Step::word, meaning_text::specs::Bytes::bytes))]
-fn word_byte(w: Word, k: usize) -> u8
-    ensures { result ≡ get_or (word w) k 0 }
+fn letters(w: Word) -> &'static [u8]
+    ensures { result.now ≡ word w }
 {
     match w {
-        Word::Window => letter(b"(window ", k),
-        Word::Width => letter(b")\n(width ", k),
-        Word::Merge => letter(b")\n(merge ", k),
-        Word::Series => letter(b")\n(series", k),
-        Word::Find => letter(b")\n(find ", k),
-        Word::Raw => letter(b"raw", k),
-        Word::Normal => letter(b"normal", k),
-        Word::Query => letter(b" (query", k),
-        Word::End => letter(b"))\n", k),
-        Word::Line => letter(b"(series", k),
-        Word::LineEnd => letter(b")\n", k),
-        Word::Space(_) => letter(b" ", k),
-    }
-}
-
-#[tactic(auto, unfolding(crate::specs::Step::word, meaning_text::specs::Bytes::bytes))]
-fn word_length(w: Word) -> usize
-    ensures { result ≡ length (word w) }
-{
-    match w {
-        Word::Window => 8,
-        Word::Width => 9,
-        Word::Merge => 9,
-        Word::Series => 9,
-        Word::Find => 8,
-        Word::Raw => 3,
-        Word::Normal => 6,
-        Word::Query => 7,
-        Word::End => 3,
-        Word::Line => 7,
-        Word::LineEnd => 2,
-        Word::Space(_) => 1,
+        Word::Window => b"(window ",
+        Word::Width => b")\n(width ",
+        Word::Merge => b")\n(merge ",
+        Word::Series => b")\n(series",
+        Word::Find => b")\n(find ",
+        Word::Raw => b"raw",
+        Word::Normal => b"normal",
+        Word::Query => b" (query",
+        Word::End => b"))\n",
+        Word::Line => b"(series",
+        Word::LineEnd => b")\n",
+        Word::Space(_) => b" ",
     }
 }
 
@@ -155,100 +129,89 @@ fn number_end(p: Field) -> Turn
 }
 
 // The only word that could begin with the byte.
+#[tactic(auto, unfolding(crate::specs::Step::pick))]
 fn picked(t: Turn, b: u8) -> Word
     ensures { result ≡ pick t b }
 {
     match t {
         Turn::One(w) => w,
-        Turn::Series => {
-            if b == 32 {
-                return Word::Space(Field::Item);
-            }
-            Word::Find
-        }
-        Turn::Kind => {
-            if b == 114 {
-                return Word::Raw;
-            }
-            Word::Normal
-        }
-        Turn::Query => {
-            if b == 32 {
-                return Word::Space(Field::Asked);
-            }
-            Word::End
-        }
-        Turn::Line => {
-            if b == 32 {
-                return Word::Space(Field::Entry);
-            }
-            Word::LineEnd
-        }
+        Turn::Series if b == b' ' => Word::Space(Field::Item),
+        Turn::Series => Word::Find,
+        Turn::Kind if b == b'r' => Word::Raw,
+        Turn::Kind => Word::Normal,
+        Turn::Query if b == b' ' => Word::Space(Field::Asked),
+        Turn::Query => Word::End,
+        Turn::Line if b == b' ' => Word::Space(Field::Entry),
+        Turn::Line => Word::LineEnd,
     }
 }
 
-// The byte is byte k of the word, and where that leads.
-fn arrive(w: Word, k: usize, b: u8) -> Reached
+// Where byte k of the word leads, if the byte is it.
+#[tactic(auto, unfolding(crate::specs::Step::reach))]
+fn arrive(w: Word, k: usize, b: u8) -> Option<State>
     requires { k < length (word w) }
     ensures { result ≡ reach w k b }
 {
-    if b == word_byte(w, k) {
-        if k + 1 < word_length(w) {
-            return Reached::There(State::In(w, k + 1));
-        }
-        return Reached::There(word_end(w));
+    let word = letters(w);
+    if b != word[k] {
+        return None;
     }
-    Reached::Not
+    if k + 1 < word.len() {
+        return Some(State::In(w, k + 1));
+    }
+    Some(word_end(w))
 }
 
+#[tactic(auto, unfolding(crate::specs::Step::word_step))]
 fn step_word(w: Word, k: usize, b: u8) -> Moved
     requires { k < length (word w) }
     ensures { result ≡ word_step w k b }
 {
+    let word = letters(w);
     match arrive(w, k, b) {
-        Reached::There(s) => {
-            if k + 1 < word_length(w) {
-                return Moved::To(s);
-            }
-            Moved::Ended(s, w)
-        }
-        Reached::Not => Moved::Refuse,
+        Some(s) if k + 1 < word.len() => Moved::To(s),
+        Some(s) => Moved::Ended(s, w),
+        None => Moved::Refuse,
     }
 }
 
+#[tactic(auto, unfolding(crate::specs::Step::turn_step))]
 fn step_turn(t: Turn, b: u8) -> Moved
     ensures { result ≡ turn_step t b }
 {
     match arrive(picked(t, b), 0, b) {
-        Reached::There(s) => Moved::To(s),
-        Reached::Not => Moved::Refuse,
+        Some(s) => Moved::To(s),
+        None => Moved::Refuse,
     }
 }
 
 // The byte behind a number that has ended.
+#[tactic(auto, unfolding(crate::specs::Step::end_step))]
 fn step_end(p: Field, z: i64, b: u8) -> Moved
     ensures { result ≡ end_step p z b }
 {
     match arrive(picked(number_end(p), b), 0, b) {
-        Reached::There(s) => Moved::Value(s, p, z),
-        Reached::Not => Moved::Refuse,
+        Some(s) => Moved::Value(s, p, z),
+        None => Moved::Refuse,
     }
 }
 
+#[tactic(auto, unfolding(crate::specs::Step::number_step))]
 fn step_number(p: Field, n: Numeral, b: u8) -> Moved
     requires { NumGood n }
     ensures { result ≡ number_step p n b }
 {
     match number_step(n, b) {
-        Taken::More(m) => Moved::To(State::At(p, m)),
-        Taken::Stop => match number_value(n) {
-            Whole::Value(z) => step_end(p, z, b),
-            Whole::Partial => Moved::Refuse,
+        Some(m) => Moved::To(State::At(p, m)),
+        None => match number_value(n) {
+            Some(z) => step_end(p, z, b),
+            None => Moved::Refuse,
         },
     }
 }
 
 // What the byte b does to a text.
+#[tactic(auto, unfolding(crate::specs::Step::line_step))]
 pub fn line_step(s: State, b: u8) -> Moved
     requires { GoodState s }
     ensures { result ≡ line_step s b }

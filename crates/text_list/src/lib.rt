@@ -34,10 +34,8 @@ fn write_matches(
 {
     let n = part_length(0, count, offsets.len(), distances.len());
     let mut to = put_word(buf, at, b"");
-    let mut i = 0;
-    while i < n {
+    for i in 0..n {
         to = write_match(buf, to, offsets[i], distances[i]);
-        i += 1;
     }
     to
 }

@@ -1,8 +1,8 @@
 -- Laws of specs/Number.
-use Rattle.meaning_numbers.proofs.Prelude.{◌≡◌, refl, true, false, ℕ, suc, ◌<◌, ◌≤◌, ◌^◌, arith, ltb, eqb, ℤ, ltb-true, ltb-false, lt-ltb, le-ltb}
+use Rattle.meaning_numbers.proofs.Prelude.{◌≡◌, true, false, ℕ, suc, ◌<◌, ◌≤◌, ◌^◌, arith, ltb, eqb, ltb-true, ltb-false, lt-ltb, le-ltb, None, Some}
 use Rattle.meaning_text.proofs.Reading.{on-flag, false-true}
 use Rattle.text_numbers.specs.declared.Numeral.TheVariants.{Start, Sign, Zero, Plus, Less}
-use Rattle.text_numbers.specs.{declared.Numeral.Numeral, declared.Taken.Taken, declared.Taken.TheVariants.More, declared.Taken.TheVariants.Stop, declared.Whole.Whole, declared.Whole.TheVariants.Value, declared.Whole.TheVariants.Partial, Number.within, Number.fits_behind, Number.grown, Number.first, Number.num_step, Number.NumGood}
+use Rattle.text_numbers.specs.{declared.Numeral.Numeral, Number.within, Number.fits_behind, Number.grown, Number.first, Number.num_step, Number.NumGood}
 
 -- ---- what the tests say
 
@@ -26,42 +26,32 @@ behind-true m b e =
 
 -- ---- a number of at most 18 digits stays one
 
-stop-more : {A : Type 0} {n : Numeral} → Stop ≡ More n → A
-stop-more e = let z : ◌≡◌ {A = ℕ} 0 1 = cc in absurd (omega arith)
+none-some : {A : Type 0} {n : Numeral} → None ≡ Some n → A
+none-some e = let z : ◌≡◌ {A = ℕ} 0 1 = cc in absurd (omega arith)
 
-more_same : {m n : Numeral} → More m ≡ More n → m ≡ n
-more_same e = cc
+some_same : {m n : Numeral} → Some m ≡ Some n → m ≡ n
+some_same e = cc
 
 module _ (f : ℕ → Numeral) (good : (m : ℕ) → m < 10 ^ 18 → NumGood (f m)) where
-  first_good : (b : ℕ) (n : Numeral) → first f b ≡ More n → NumGood n
+  first_good : (b : ℕ) (n : Numeral) → first f b ≡ Some n → NumGood n
   first_good b n e =
       on-flag (within 49 57 b)
-      (λ t. rw (← more_same (rw t at e)) (good _ (omega (arith, (within-true 49 57 b t).1))))
-      (λ t. stop-more (rw t at e))
+      (λ t. rw (← some_same (rw t at e)) (good _ (omega (arith, (within-true 49 57 b t).1))))
+      (λ t. none-some (rw t at e))
 
-  grown-good : (m b : ℕ) (n : Numeral) → grown f m b ≡ More n → NumGood n
+  grown-good : (m b : ℕ) (n : Numeral) → grown f m b ≡ Some n → NumGood n
   grown-good m b n e =
       on-flag (fits_behind m b)
-      (λ t. rw (← more_same (rw t at e)) (good _ (omega (arith, (behind-true m b t).1, (behind-true m b t).2))))
-      (λ t. stop-more (rw t at e))
+      (λ t. rw (← some_same (rw t at e)) (good _ (omega (arith, (behind-true m b t).1, (behind-true m b t).2))))
+      (λ t. none-some (rw t at e))
 
-pub good-step : (s : Numeral) (b : ℕ) (n : Numeral) → num_step s b ≡ More n → NumGood n
+pub good-step : (s : Numeral) (b : ℕ) (n : Numeral) → num_step s b ≡ Some n → NumGood n
 unfolding num_step
 good-step Start b n e =
     on-flag (eqb b 45)
-    (λ t. rw (← more_same (rw t at e)) tt)
-    (λ t. on-flag (eqb b 48) (λ u. rw (← more_same (rw (t, u) at e)) tt) (λ u. first_good Plus (λ m h. h) b n (rw (t, u) at e)))
+    (λ t. rw (← some_same (rw t at e)) tt)
+    (λ t. on-flag (eqb b 48) (λ u. rw (← some_same (rw (t, u) at e)) tt) (λ u. first_good Plus (λ m h. h) b n (rw (t, u) at e)))
 good-step Sign b n e = first_good Less (λ m h. h) b n e
-good-step Zero b n e = stop-more e
+good-step Zero b n e = none-some e
 good-step (Plus m) b n e = grown-good Plus (λ m h. h) m b n e
 good-step (Less m) b n e = grown-good Less (λ m h. h) m b n e
-
--- ---- by cases
-
-pub on-taken : (x : Taken) {A : Type 0} → ((n : Numeral) → x ≡ More n → A) → (x ≡ Stop → A) → A
-on-taken (More n) f g = f n refl
-on-taken Stop f g = g refl
-
-pub on-whole : (x : Whole) {A : Type 0} → ((z : ℤ) → x ≡ Value z → A) → (x ≡ Partial → A) → A
-on-whole (Value z) f g = f z refl
-on-whole Partial f g = g refl

@@ -1,28 +1,28 @@
 -- A number, and then on from there: read byte by byte it comes to what `readℤ` says.
-use Rattle.meaning_numbers.proofs.Prelude.{◌≡◌, refl, sym, ◌∙◌, fun_ext, List, [], ◌∷◌, true, false, ℕ, zero, suc, ◌+◌, ◌*◌, ◌-◌, ◌<◌, ◌≤◌, ◌^◌, pow-le-pow_right, arith, eqb, ℤ, pos, neg_ℤ, ltb-true, lt-ltb, le-ltb, le-leb}
+use Rattle.meaning_numbers.proofs.Prelude.{◌≡◌, refl, sym, ◌∙◌, fun_ext, List, [], ◌∷◌, true, false, ℕ, zero, suc, ◌+◌, ◌*◌, ◌-◌, ◌<◌, ◌≤◌, ◌^◌, pow-le-pow_right, arith, eqb, ℤ, pos, neg_ℤ, ltb-true, lt-ltb, le-ltb, le-leb, Option, None, Some}
 use Rattle.meaning_text.specs.Form.{number, then_read, read}
 use Rattle.meaning_text.specs.Number.{bad, is_digit, read_digits, read_positive, with_sign, readℤ}
 use Rattle.meaning_text.proofs.{Reading.on-flag, Reading.and-true, Reading.false-true, Number.is-digit, Onward.Rest, Onward.read_then}
-use Rattle.text_numbers.specs.Number.{num_step, whole, within, grown, first, by_taken, by_whole}
+use Rattle.text_numbers.specs.Number.{num_step, whole, within, grown, first, by_option}
 use Rattle.text_numbers.specs.declared.Numeral.TheVariants.{Start, Sign, Zero, Plus, Less}
-use Rattle.text_numbers.specs.{declared.Numeral.Numeral, declared.Taken.TheVariants.More, declared.Taken.TheVariants.Stop, declared.Whole.Whole, declared.Whole.TheVariants.Value, declared.Whole.TheVariants.Partial}
+use Rattle.text_numbers.specs.declared.Numeral.{Numeral}
 use Rattle.text_numbers.proofs.Number.{within-yes, within-false}
 
 -- on from a number that has ended, or a bad byte
-abbrev pub whole_then : {A : Type 0} → Whole → (ℤ → Rest A) → Rest A
-whole_then w k t = by_whole w (λ z. k z t) (bad t)
+abbrev pub whole_then : {A : Type 0} → Option ℤ → (ℤ → Rest A) → Rest A
+whole_then w k t = by_option w (λ z. k z t) (bad t)
 
 -- the number of which n has been read, and then on from there
 unfoldable pub number_then : {A : Type 0} → Numeral → (ℤ → Rest A) → Rest A
 number_then n k [] = whole_then (whole n) k []
-number_then n k (b ∷ t) = by_taken (num_step n b) (λ m. number_then m k t) (whole_then (whole n) k (b ∷ t))
+number_then n k (b ∷ t) = by_option (num_step n b) (λ m. number_then m k t) (whole_then (whole n) k (b ∷ t))
 
 module _ {A : Type 0} (k : ℤ → Rest A) (n : Numeral) where
-  pub number_more : (b : ℕ) (m : Numeral) (t : List ℕ) → num_step n b ≡ More m → number_then n k (b ∷ t) ≡ number_then m k t
+  pub number_more : (b : ℕ) (m : Numeral) (t : List ℕ) → num_step n b ≡ Some m → number_then n k (b ∷ t) ≡ number_then m k t
   unfolding number_then
   number_more b m t e = rw e
 
-  pub number-stop : (b : ℕ) (t : List ℕ) → num_step n b ≡ Stop → number_then n k (b ∷ t) ≡ whole_then (whole n) k (b ∷ t)
+  pub number-stop : (b : ℕ) (t : List ℕ) → num_step n b ≡ None → number_then n k (b ∷ t) ≡ whole_then (whole n) k (b ∷ t)
   unfolding number_then
   number-stop b t e = rw e
 
@@ -57,11 +57,11 @@ no-digit-within b e = within-false 48 57 b (λ h. absurd (clash (rw (le-leb 48 b
     clash e = false-true (sym e)
 
 -- digits behind m, with a sign or none
-module _ {A : Type 0} (k : ℤ → Rest A) (f : ℕ → Numeral) (g : ℕ → ℤ) (steps : (m b : ℕ) → num_step (f m) b ≡ grown f m b) (is : (m : ℕ) → whole (f m) ≡ Value (g m)) where
-  full : (m b : ℕ) → Left m 0 → grown f m b ≡ Stop
+module _ {A : Type 0} (k : ℤ → Rest A) (f : ℕ → Numeral) (g : ℕ → ℤ) (steps : (m b : ℕ) → num_step (f m) b ≡ grown f m b) (is : (m : ℕ) → whole (f m) ≡ Some (g m)) where
+  full : (m b : ℕ) → Left m 0 → grown f m b ≡ None
   full m b r = on-flag (within 48 57 b) (λ t. rw (t, le-ltb m 100000000000000000 (left-full m r))) (λ t. rw t)
 
-  stops : (m : ℕ) (b : ℕ) (t : List ℕ) → grown f m b ≡ Stop → number_then (f m) k (b ∷ t) ≡ k (g m) (b ∷ t)
+  stops : (m : ℕ) (b : ℕ) (t : List ℕ) → grown f m b ≡ None → number_then (f m) k (b ∷ t) ≡ k (g m) (b ∷ t)
   stops m b t e = number-stop k (f m) b t (steps m b ∙ e) ∙ rw (is m)
 
   digits-then : (t : List ℕ) (m j : ℕ) → Left m j → then_read (with_sign g (read_digits j m t)) k ≡ number_then (f m) k t
@@ -72,12 +72,12 @@ module _ {A : Type 0} (k : ℤ → Rest A) (f : ℕ → Numeral) (g : ℕ → �
   digits-then (b ∷ t) m (suc j) r =
       on-flag _
       (λ e. let h = is-digit b e in
-      let s : grown f m b ≡ More (f (10 * m + (b - 48))) = rw (digit-within b e, lt-ltb m 100000000000000000 (left-room m j r)) in
+      let s : grown f m b ≡ Some (f (10 * m + (b - 48))) = rw (digit-within b e, lt-ltb m 100000000000000000 (left-room m j r)) in
       rw (e, read_digits) (digits-then t _ j (left-more m _ j (omega arith) r) ∙ sym (number_more k (f m) b _ t (steps m b ∙ s))))
       (λ e. rw (e, read_digits) (sym (stops m b t (rw (no-digit-within b e)))))
 
   -- the first digit
-  module _ (s : Numeral) (partial : whole s ≡ Partial) where
+  module _ (s : Numeral) (partial : whole s ≡ None) where
     first_then : (b : ℕ) (t : List ℕ) → num_step s b ≡ first f b → then_read (with_sign g (read_positive (b ∷ t))) k ≡ number_then s k (b ∷ t)
     unfolding read_positive with_sign then_read
     first_then b t e =
@@ -85,7 +85,7 @@ module _ {A : Type 0} (k : ℤ → Rest A) (f : ℕ → Numeral) (g : ℕ → �
         (λ h. let i = and-true _ _ h in
         let d = is-digit b i.0 in
         let p : 48 < b = ltb-true 48 b i.1 in
-        let q : first f b ≡ More (f (b - 48)) = rw (within-yes 49 57 b (omega arith) d.1) in
+        let q : first f b ≡ Some (f (b - 48)) = rw (within-yes 49 57 b (omega arith) d.1) in
         rw (h, read_positive) (digits-then t _ 17 (left_one _ (omega arith) (omega arith)) ∙ sym (number_more k s b _ t (e ∙ q))))
         (λ h. let q = within-false 49 57 b (λ d. true-false (rw (le-leb 48 b (omega arith), le-leb b 57 d.1, lt-ltb 48 b (omega arith)) at h)) in
         rw (h, read_positive) (sym (number-stop k s b t (e ∙ rw q) ∙ rw partial)))
@@ -116,7 +116,7 @@ module _ {A : Type 0} (k : ℤ → Rest A) where
       (λ e. rw (e, readℤ) (minus-then t))
       (λ e. on-flag (eqb b 48) (λ g. rw (e, g, readℤ) (zero-then t)) (λ g. rw (e, g, readℤ) (plain_then b t e g ∙ number_is b t e g)))
     where
-      number_is : (b : ℕ) (t : List ℕ) → eqb b 45 ≡ false → eqb b 48 ≡ false → number_then Start k (b ∷ t) ≡ by_taken (first Plus b) (λ m. number_then m k t) (bad (b ∷ t))
+      number_is : (b : ℕ) (t : List ℕ) → eqb b 45 ≡ false → eqb b 48 ≡ false → number_then Start k (b ∷ t) ≡ by_option (first Plus b) (λ m. number_then m k t) (bad (b ∷ t))
       number_is b t e g = rw (e, g)
 
   pub number-then : read_then number k ≡ number_then Start k

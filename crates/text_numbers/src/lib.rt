@@ -1,8 +1,8 @@
 // What every text is read by: a byte of a word, and a number byte by byte, of at most 18 digits, with no leading zero and no -0.
 #![tactic(auto)]
 
-ghost use Rattle.std.specs.Prelude.{◌≡◌, true, ◌+◌, ◌-◌, ◌*◌, get_or};
-ghost use Rattle.text_numbers.specs.Number.{within, fits_behind, num_step, whole, NumGood};
+ghost use Rattle.std.specs.Prelude.{◌≡◌, ◌+◌, ◌-◌, ◌*◌, cond, get_or, None, Some};
+ghost use Rattle.text_numbers.specs.Number.{fits_behind, num_step, whole, NumGood};
 
 // A number as far as it has been read: nothing, a '-', a 0, digits, a '-' and digits.
 #[derive(Clone, Copy)]
@@ -14,101 +14,52 @@ pub enum Numeral {
     Less(u64),
 }
 
-// What a byte does to a number: it goes on, or the byte is none of its bytes.
-#[derive(Clone, Copy)]
-pub enum Taken {
-    More(Numeral),
-    Stop,
-}
-
-// The value of a number that could end here.
-#[derive(Clone, Copy)]
-pub enum Whole {
-    Value(i64),
-    Partial,
-}
-
 // The least number of 18 digits: no digit may follow one of them.
 const LONGEST: u64 = 100000000000000000;
 
-// The byte is a digit, and not below `least`.
-fn digit_from(least: u8, b: u8) -> bool
-    ensures { result ≡ within least 57 b }
+// The number m with the digit b behind it, of at most 18 digits.
+fn digit_behind(m: u64, b: u8) -> Option<u64>
+    ensures { result ≡ cond (fits_behind m b) (Some (10 * m + (b - 48))) None }
 {
-    if b < least {
-        return false;
+    if b.is_ascii_digit() && m < LONGEST {
+        return Some(10 * m + (b - b'0') as u64);
     }
-    b < 58
+    None
 }
 
-// The digit b may stand behind the number m: 18 digits are the most.
-fn digit_behind(m: u64, b: u8) -> bool
-    ensures { result ≡ fits_behind m b }
-{
-    if digit_from(48, b) {
-        return m < LONGEST;
-    }
-    false
-}
-
-// The number m with the digit b behind it.
-fn with_digit(m: u64, b: u8) -> u64
-    requires { fits_behind m b ≡ true }
-    ensures { result ≡ 10 * m + (b - 48) }
-{
-    10 * m + ((b - 48) as u64)
-}
-
-// What the byte b does to the number n.
-pub fn number_step(n: Numeral, b: u8) -> Taken
+// What the byte b does to the number n: it goes on, or the byte is none of its bytes.
+#[tactic(auto, unfolding(crate::specs::Number::num_step))]
+pub fn number_step(n: Numeral, b: u8) -> Option<Numeral>
     ensures { result ≡ num_step n b }
 {
     match n {
-        Numeral::Start => {
-            if b == 45 {
-                return Taken::More(Numeral::Sign);
-            }
-            if b == 48 {
-                return Taken::More(Numeral::Zero);
-            }
-            if digit_from(49, b) {
-                return Taken::More(Numeral::Plus((b - 48) as u64));
-            }
-            Taken::Stop
-        }
-        Numeral::Sign => {
-            if digit_from(49, b) {
-                return Taken::More(Numeral::Less((b - 48) as u64));
-            }
-            Taken::Stop
-        }
-        Numeral::Zero => Taken::Stop,
-        Numeral::Plus(m) => {
-            if digit_behind(m, b) {
-                return Taken::More(Numeral::Plus(with_digit(m, b)));
-            }
-            Taken::Stop
-        }
-        Numeral::Less(m) => {
-            if digit_behind(m, b) {
-                return Taken::More(Numeral::Less(with_digit(m, b)));
-            }
-            Taken::Stop
-        }
+        Numeral::Start => match b {
+            b'-' => Some(Numeral::Sign),
+            b'0' => Some(Numeral::Zero),
+            b'1'..=b'9' => Some(Numeral::Plus((b - b'0') as u64)),
+            _ => None,
+        },
+        Numeral::Sign => match b {
+            b'1'..=b'9' => Some(Numeral::Less((b - b'0') as u64)),
+            _ => None,
+        },
+        Numeral::Zero => None,
+        Numeral::Plus(m) => Some(Numeral::Plus(digit_behind(m, b)?)),
+        Numeral::Less(m) => Some(Numeral::Less(digit_behind(m, b)?)),
     }
 }
 
 // The value of a number that could end where it stands.
-pub fn number_value(n: Numeral) -> Whole
+#[tactic(auto, unfolding(crate::specs::Number::whole))]
+pub fn number_value(n: Numeral) -> Option<i64>
     requires { NumGood n }
     ensures { result ≡ whole n }
 {
     match n {
-        Numeral::Start => Whole::Partial,
-        Numeral::Sign => Whole::Partial,
-        Numeral::Zero => Whole::Value(0),
-        Numeral::Plus(m) => Whole::Value(m as i64),
-        Numeral::Less(m) => Whole::Value(0 - (m as i64)),
+        Numeral::Start | Numeral::Sign => None,
+        Numeral::Zero => Some(0),
+        Numeral::Plus(m) => Some(m as i64),
+        Numeral::Less(m) => Some(-(m as i64)),
     }
 }
 
@@ -116,8 +67,5 @@ pub fn number_value(n: Numeral) -> Whole
 pub fn letter(word: &[u8], k: usize) -> u8
     ensures { result ≡ get_or word.now k 0 }
 {
-    if k < word.len() {
-        return word[k];
-    }
-    0
+    word.get(k).copied().unwrap_or(0)
 }

@@ -1,5 +1,5 @@
 -- The digits of a number, as the code writes them: those of a tenth of it and the last, and a '-' before those of a negative one.
-use Rattle.meaning_numbers.proofs.Prelude.{◌≡◌, refl, sym, ap, ◌∙◌, [], ◌∷◌, ◌++◌, ℕ, zero, suc, ◌+◌, ◌*◌, ◌/◌, ◌%◌, ◌<◌, ◌≤◌, ◌^◌, pow-suc, arith, ℤ, pos, negsuc, nat_abs, ◌≤ℤ◌, ◌<ℤ◌, w32, w64, SFits, zarith, dec_le, length, length-append}
+use Rattle.meaning_numbers.proofs.Prelude.{◌≡◌, refl, sym, ap, ◌∙◌, [], ◌∷◌, ◌++◌, ℕ, zero, suc, ◌+◌, ◌*◌, ◌/◌, ◌%◌, ◌<◌, ◌≤◌, ◌^◌, pow-suc, arith, ℤ, pos, negsuc, nat_abs, ◌≤ℤ◌, ◌<ℤ◌, zarith, dec_le, length, length-append}
 use Rattle.meaning_text.specs.Number.{spellℕ, spellℤ}
 use Rattle.meaning_text.proofs.Number.{spell-one, spell-more}
 
@@ -15,16 +15,6 @@ pub spell-plus : (z : ℤ) → pos 0 ≤ℤ z → spellℤ z ≡ spellℕ (nat_a
 unfolding spellℤ
 spell-plus (pos n) h = refl
 spell-plus (negsuc n) h = absurd (omega zarith)
-
--- ---- an i32 as an i64
-
-pub sfits_wide : {z : ℤ} → SFits w32 z → SFits w64 z
-sfits_wide {z = pos n} h = record { sfits = omega arith }
-sfits_wide {z = negsuc n} h = record { sfits = omega arith }
-
-pub abs-small : {z : ℤ} → SFits w32 z → nat_abs z ≤ 2147483648
-abs-small {z = pos n} h = omega arith
-abs-small {z = negsuc n} h = omega arith
 
 -- ---- how many digits there are
 

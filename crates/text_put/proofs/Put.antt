@@ -1,5 +1,5 @@
 -- Laws of specs/Put.
-use Rattle.meaning_numbers.proofs.Prelude.{◌≡◌, refl, sym, ◌∙◌, List, [], ◌∷◌, ◌++◌, ◌⊎◌, inl, inr, ⊎_elim, true, false, ℕ, suc, ◌+◌, ◌<◌, ◌≤◌, min, arith, add-one, ltb, length, take, drop, get_or, length-append, sets, length-sets, sets-eq, set_out, take-suc, take-length, ltb-true, ltb-false}
+use Rattle.meaning_numbers.proofs.Prelude.{◌≡◌, refl, sym, ◌∙◌, List, [], ◌∷◌, ◌++◌, ◌⊎◌, inl, inr, ⊎_elim, true, false, ℕ, suc, ◌+◌, ◌<◌, ◌≤◌, min, arith, add-one, ltb, length, take, drop, get_or, length-append, sets, length-sets, sets-eq, set_out, take-suc, ltb-true, ltb-false}
 use Rattle.meaning_text.proofs.Sets.{sets-append}
 use Rattle.text_put.specs.Put.{Put}
 
@@ -39,9 +39,6 @@ put-room {old} {l} {new} {i} {j} p h =
 pub put-turn : {a b c : List ℕ} {i j k : ℕ} (word : List ℕ) (n : ℕ) → n < length word
     → Put a i (take n word) b j → Put b j (get_or word n 0 ∷ []) c k → Put a i (take (n + 1) word) c k
 put-turn word n h p q = rw (add-one, take-suc word n 0) (put_then p q)
-
-pub put_all : {a b : List ℕ} {i j : ℕ} (word : List ℕ) (n : ℕ) → n ≡ length word → Put a i (take n word) b j → Put a i word b j
-put_all word n e p = rw (e, take-length) at p
 
 pub put-length : {old l new : List ℕ} {i j : ℕ} → Put old i l new j → length new ≡ length old
 put-length {old} {l} {new} {i} p = rw p.holds (length-sets old i l)

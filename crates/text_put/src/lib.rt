@@ -1,7 +1,7 @@
 // Bytes, words and numbers written into a buffer. The next place is counted on to one past the buffer's end, which says that there was no room.
 #![tactic(auto)]
 
-ghost use Rattle.std.specs.Prelude.{◌≡◌, ◌∷◌, [], suc, min, ◌<◌, ◌≤◌, ◌^◌, nat_abs, pos, length};
+ghost use Rattle.std.specs.Prelude.{◌≡◌, ◌∷◌, [], ◌<◌, ◌≤◌, pos, length};
 ghost use Rattle.meaning_text.specs.Number.{spellℕ, spellℤ};
 ghost use Rattle.text_put.specs.Put.{Put};
 
@@ -15,22 +15,14 @@ pub fn put_byte(buf: &mut [u8], at: usize, b: u8) -> usize
     buf.len() + 1
 }
 
-fn capped(at: usize, len: usize) -> usize
-    requires { len < 2 ^ 63 }
-    ensures { result ≡ min at (suc len) }
-{
-    if at <= len { at } else { len + 1 }
-}
-
 // The word, byte by byte.
 pub fn put_word(buf: &mut [u8], at: usize, word: &[u8]) -> usize
     ensures { Put buf.old at word.now buf.new result }
 {
-    let mut to = capped(at, buf.len());
-    let mut i = 0;
-    while i < word.len() {
-        to = put_byte(buf, to, word[i]);
-        i += 1;
+    let size = buf.len();
+    let mut to = at.min(size + 1);
+    for &b in word {
+        to = put_byte(buf, to, b);
     }
     to
 }
@@ -40,30 +32,20 @@ fn put_digits(buf: &mut [u8], at: usize, n: u64) -> usize
     ensures { Put buf.old at (spellℕ n) buf.new result }
 {
     if n < 10 {
-        return put_byte(buf, at, 48 + (n as u8));
+        return put_byte(buf, at, b'0' + (n as u8));
     }
     let to = put_digits(buf, at, n / 10);
-    put_byte(buf, to, 48 + ((n % 10) as u8))
-}
-
-// The number without its sign.
-fn magnitude(x: i64) -> u64
-    ensures { result ≡ nat_abs x }
-{
-    if x < 0 {
-        return (0 - (x + 1)) as u64 + 1;
-    }
-    x as u64
+    put_byte(buf, to, b'0' + ((n % 10) as u8))
 }
 
 // The number in base ten.
 pub fn write_number(buf: &mut [u8], at: usize, x: i64) -> usize
     ensures { Put buf.old at (spellℤ x) buf.new result }
 {
-    let m = magnitude(x);
+    let m = x.unsigned_abs();
     let negative = x < 0;
     if negative {
-        let to = put_byte(buf, at, 45);
+        let to = put_byte(buf, at, b'-');
         return put_digits(buf, to, m);
     }
     put_digits(buf, at, m)
@@ -92,19 +74,13 @@ fn few_digits(n: u32) -> usize
     requires { n < 100000 }
     ensures { result ≡ length (spellℕ n) }
 {
-    if n < 10 {
-        return 1;
+    match n {
+        0..=9 => 1,
+        10..=99 => 2,
+        100..=999 => 3,
+        1000..=9999 => 4,
+        _ => 5,
     }
-    if n < 100 {
-        return 2;
-    }
-    if n < 1000 {
-        return 3;
-    }
-    if n < 10000 {
-        return 4;
-    }
-    5
 }
 
 // How many digits a number has.
@@ -121,7 +97,6 @@ pub fn digit_count(n: u32) -> usize
 pub fn number_length(x: i32) -> usize
     ensures { (result ≡ length (spellℤ x)) × (result ≤ 11) }
 {
-    let m = magnitude(x as i64);
-    let digits = digit_count(m as u32);
+    let digits = digit_count(x.unsigned_abs());
     if x < 0 { digits + 1 } else { digits }
 }

@@ -8,17 +8,11 @@ ghost use Rattle.meaning_text.specs.Read.{line_of};
 pub fn line_at(text: &[u8], at: usize) -> usize
     ensures { result ≡ line_of text.now at }
 {
+    let end = at.min(text.len());
     let mut n = 1;
-    let mut i = 0;
-    while i < at {
-        if text.len() <= i {
-            return n;
-        }
-        if text[i] == 10 {
+    for &b in &text[..end] {
+        if b == b'\n' {
             n += 1;
-            i += 1;
-        } else {
-            i += 1;
         }
     }
     n

@@ -26,36 +26,30 @@ pub struct Line {
 fn short(n: usize) -> u32
     ensures { result ≡ min n 4294967295 }
 {
-    if n < 4294967295 {
-        return n as u32;
-    }
-    4294967295
+    u32::try_from(n).unwrap_or(u32::MAX)
 }
 
 // The record of the row that is open.
+#[tactic(auto, unfolding(crate::specs::Line::row_made))]
 fn make_row(t: Tally) -> Row
     ensures { result ≡ row_made t }
 {
-    let rows = t.rows;
-    let o = t.row;
-    let runs = o.runs;
     Row {
-        low: o.low,
-        up: o.up,
-        first: short(rows.runs),
-        runs: short(runs.count),
+        low: t.row.low,
+        up: t.row.up,
+        first: short(t.rows.runs),
+        runs: short(t.row.runs.count),
     }
 }
 
 fn line_end(s: State, at: usize, t: Tally) -> Line
     ensures { result ≡ record { state = s; at = at; tally = t; row = record { low = pos 0; up = pos 0; first = 0; runs = 0 } } }
 {
-    let row = zero_row();
     Line {
         state: s,
         at,
         tally: t,
-        row,
+        row: zero_row(),
     }
 }
 
@@ -63,8 +57,7 @@ fn line_end(s: State, at: usize, t: Tally) -> Line
 pub fn no_line() -> Line
     ensures { result ≡ no_line }
 {
-    let t = no_tally();
-    line_end(State::In(Word::Window, 0), 0, t)
+    line_end(State::In(Word::Window, 0), 0, no_tally())
 }
 
 // Reads on from place `at` to the end of the next row.
@@ -94,21 +87,15 @@ fn row_from(text: &[u8], at: usize, s: State, t: Tally) -> Line
                 i = j;
             }
             Event::Closed(n, j) => {
-                let row = make_row(tally);
-                let u = shut(tally);
                 return Line {
                     state: n,
                     at: j,
-                    tally: u,
-                    row,
+                    tally: shut(tally),
+                    row: make_row(tally),
                 };
             }
-            Event::Refuse(n, j) => {
-                return line_end(n, j, tally);
-            }
-            Event::End(n, j) => {
-                return line_end(n, j, tally);
-            }
+            Event::Refuse(n, j) => return line_end(n, j, tally),
+            Event::End(n, j) => return line_end(n, j, tally),
         }
     }
 }
@@ -142,10 +129,8 @@ pub fn fill_rows(text: &[u8], to: usize, rows: &mut [Row])
     ensures { rows.new ≡ stored text.now to rows.old }
 {
     let mut p = no_line();
-    let mut k = 0;
-    while k < to {
+    for k in 0..to {
         p = next_line(text, p);
         rows[k] = line_row(p);
-        k += 1;
     }
 }

@@ -24,6 +24,7 @@ pub fn write_head(buf: &mut [u8], at: usize, h: Head) -> usize
 }
 
 // The index text's end.
+#[tactic(auto, unfolding(crate::specs::Write::end_text, meaning_text::specs::Bytes::bytes))]
 pub fn write_end(buf: &mut [u8], at: usize) -> usize
     ensures { Put buf.old at end_text buf.new result }
 {
@@ -41,21 +42,11 @@ fn write_run(buf: &mut [u8], at: usize, left: u32, right: u32) -> usize
     put_word(buf, to, b")")
 }
 
-fn less_of(a: usize, b: usize) -> usize
-    ensures { result ≡ min a b }
-{
-    if a <= b { a } else { b }
-}
-
 // How many of `runs` entries from `first` on there are in slices of these lengths.
 pub fn part_length(first: usize, runs: usize, left: usize, right: usize) -> usize
     ensures { result ≡ min runs (min left right - first) }
 {
-    let both = less_of(left, right);
-    if both <= first {
-        return 0;
-    }
-    less_of(runs, both - first)
+    runs.min(left.min(right).saturating_sub(first))
 }
 
 // The runs from entry `first` on, as many as there are.
@@ -71,10 +62,8 @@ fn write_runs(
 {
     let n = part_length(first, runs, left.len(), right.len());
     let mut to = put_word(buf, at, b"");
-    let mut i = 0;
-    while i < n {
+    for i in 0..n {
         to = write_run(buf, to, left[first + i], right[first + i]);
-        i += 1;
     }
     to
 }

@@ -1,3 +1,2 @@
 -- What the proofs of the functions for C share.
 pub mod Laws
-pub mod Answers

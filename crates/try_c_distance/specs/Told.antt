@@ -1,6 +1,5 @@
 -- What each function for C tells and leaves, by the meanings: for each, what is asked of its input, the answer, what it does then, and what is kept otherwise.
 use Rattle.std.specs.Prelude.{ℕ, ◌<◌, ℤ, length, Bool, true, false, List, ◌≡◌}
-use Rattle.std.specs.Prelude.{None}
 use Rattle.meaning_numbers.specs.Sum.{Σℕ}
 use Rattle.meaning_curves.specs.{Curve.at, Curve.stretch, Curve.window_count, Curve.spread, Straight.straight, Table.warped}
 use Rattle.meaning_curves.proofs.Values.{AllIn}
@@ -63,7 +62,7 @@ pub record NormalRoom (s : List ℤ) (m j : ℕ) (old new : List ℤ) : Type 0 w
 -- room after the first n stretches: the normalised values of the last that is not flat, or as it was where all are
 pub record LastNormal (s : List ℤ) (m n : ℕ) (old new : List ℤ) : Type 0 where
   pub last : (j : ℕ) → j < n → 0 < spread (stretch s j) m → ((k : ℕ) → j < k → k < n → spread (stretch s k) m ≡ 0) → Normalised (stretch s j) m new
-  pub None : ((j : ℕ) → j < n → spread (stretch s j) m ≡ 0) → new ≡ old
+  pub none : ((j : ℕ) → j < n → spread (stretch s j) m ≡ 0) → new ≡ old
 
 abbrev pub SpreadAt : (s : List ℤ) (m : ℕ) → ℕ → ℕ → Type 0
 SpreadAt s m j x = x ≡ spread (stretch s j) m

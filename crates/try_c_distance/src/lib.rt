@@ -18,16 +18,13 @@ use distance_normal::normalise;
 use distance_straight::straight;
 use distance_warped::warped_in;
 use meaning_curves::LONGEST_QUERY;
-use values::{Place, Sums, first_outside, next_sums, spread_of, sums_at};
+use values::{Sums, first_outside, next_sums, spread_of, sums_at};
 
 // Whether each value is in its limits.
 pub fn all_in(s: &[i32]) -> bool
     ensures { Says result (AllIn s.now) }
 {
-    match first_outside(s) {
-        Place::At(_) => false,
-        Place::Nowhere => true,
-    }
+    first_outside(s).is_none()
 }
 
 // Whether `s` has stretches of `m` values, there is room for a number for each, and each value is in its limits.
@@ -61,12 +58,11 @@ pub fn curve_straight(s: &[i32], q: &[i32], limit: u64, out: &mut [u64]) -> usiz
     if !all_in(q) {
         return 0;
     }
-    let mut at: usize = 0;
-    while at <= n - m {
+    let stretches = n - m + 1;
+    for at in 0..stretches {
         out[at] = straight(s, at, q, limit);
-        at += 1;
     }
-    at
+    stretches
 }
 
 // The envelope bound of each stretch of `s`, likewise.
@@ -87,12 +83,11 @@ pub fn curve_bound(s: &[i32], low: &[i32], high: &[i32], limit: u64, out: &mut [
     if !all_in(high) {
         return 0;
     }
-    let mut at: usize = 0;
-    while at <= n - m {
+    let stretches = n - m + 1;
+    for at in 0..stretches {
         out[at] = envelope_bound(s, at, low, high, limit);
-        at += 1;
     }
-    at
+    stretches
 }
 
 // The warped distance of `q` from each stretch of `s`, of the query's envelopes.
@@ -112,12 +107,11 @@ fn each_warped(
     let n = s.len();
     let m = q.len();
     let mut row: [u64; LONGEST_QUERY + 1] = [0; LONGEST_QUERY + 1];
-    let mut at: usize = 0;
-    while at <= n - m {
+    let stretches = n - m + 1;
+    for at in 0..stretches {
         out[at] = warped_in(s, at, q, low, high, b, limit, &mut row);
-        at += 1;
     }
-    at
+    stretches
 }
 
 // The warped distance of `q` from each stretch of `s`, likewise. `low` and `high` are as long as `q`, and are left with its envelopes.
@@ -207,13 +201,12 @@ pub fn curve_normal(s: &[i32], room: &mut [i32], out: &mut [u64]) -> usize
         return 0;
     }
     let mut t = sums_at(s, 0, m);
-    let mut at: usize = 0;
-    while at <= n - m {
+    let stretches = n - m + 1;
+    for at in 0..stretches {
         let a = spread_of(s, at, m, t);
         normal_values(s, at, t, a, room);
         out[at] = a;
         t = sums_after(s, at, m, t);
-        at += 1;
     }
-    at
+    stretches
 }

@@ -1,7 +1,9 @@
 -- A text of which some bytes have been read (`Stands`), and one more piece (`Fed`).
+use Rattle.std.specs.declared.result.Result.{Result}
+use Rattle.std.specs.Prelude.{Ok, Err}
 use Rattle.std.specs.Prelude.{ℕ, ◌-◌, ◌≤◌, ℤ, length, take, drop, Bool, true, false, List, ◌≡◌}
 use Rattle.text_lines.specs.{Step.GoodState, Follow.Said, Follow.Reading, Follow.program_start, Follow.series_start}
-use Rattle.text_feed.specs.{declared.Progress.Progress, declared.Feeding.Feeding, Feed.GoodFeeding, Feed.Comes as Takes, Whole.no_values}
+use Rattle.text_feed.specs.{declared.Progress.Progress, Feed.GoodFeeding, Feed.Comes as Takes, Whole.no_values}
 
 -- where the program's lines begin, and a series line
 abbrev pub start_of : Bool → Reading
@@ -20,7 +22,7 @@ pub record Stands (n : ℕ) (p : Progress) : Type 0 where
   pub inside : p.at ≤ n
 
 -- the bytes to `end` were read, and the buffers have their lengths
-pub record Fed (text : List ℕ) (end : ℕ) (p : Progress) (r : Feeding) (numbers series query numbers' series' query' : List ℤ) : Type 0 where
+pub record Fed (text : List ℕ) (end : ℕ) (p : Progress) (r : Result Progress ℕ) (numbers series query numbers' series' query' : List ℤ) : Type 0 where
   pub good : GoodFeeding end r
   pub alone : length numbers' ≡ length numbers
   pub first : length series' ≡ length series

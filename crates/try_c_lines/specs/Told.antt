@@ -1,8 +1,10 @@
 -- What is told of the program's lines, or of a series line, however the text is cut (`LinesTold`): what the whole text says, or its first bad line.
+use Rattle.std.specs.declared.result.Result.{Result}
+use Rattle.std.specs.Prelude.{Ok, Err}
 use Rattle.std.specs.Prelude.{ℕ, ℤ, Bool, true, false, List, ◌≡◌}
 use Rattle.meaning_text.specs.{Form.Form, Form.Value, Read.fine, Read.unfit, Read.read_text, Read.line_of, Texts.series_form, Texts.program_form}
 use Rattle.text_lines.specs.{declared.State.State, Follow.Said, Follow.nothing_said, Follow.program_value, Follow.series_value}
-use Rattle.text_feed.specs.{declared.Values.Values, declared.Progress.Progress, declared.Feeding.Feeding, Keep.numbers_of, Keep.Holds}
+use Rattle.text_feed.specs.{declared.Values.Values, declared.Progress.Progress, Keep.numbers_of, Keep.Holds}
 use Rattle.try_c_lines.specs.declared.Lines.{Lines}
 
 -- the first bad line, and nothing of its values
@@ -40,6 +42,6 @@ end_told text p (State.At q n) = bad_line (line_of text p.at)
 end_told text p (State.Before t) = bad_line (line_of text p.at)
 end_told text p State.Done = good_told p
 
-abbrev pub answer_told : List ℕ → Feeding → Lines
-answer_told text (Feeding.Going p) = end_told text p p.state
-answer_told text (Feeding.Failed m) = bad_line (line_of text m)
+abbrev pub answer_told : List ℕ → Result Progress ℕ → Lines
+answer_told text (Ok p) = end_told text p p.state
+answer_told text (Err m) = bad_line (line_of text m)

@@ -6,7 +6,7 @@ ghost use Rattle.meaning_text.specs.Read.{line_of};
 ghost use Rattle.try_c_lines.specs.Told.{bad_line, good_told, end_told, answer_told, LinesTold};
 ghost use Rattle.try_c_lines.specs.Piece.{begun, Stands, Fed};
 
-use text_feed::{Feeding, Progress, Values, feed};
+use text_feed::{Progress, Values, feed};
 use text_lines::{State, Word};
 use text_reader::bad_line;
 
@@ -29,16 +29,9 @@ fn begin(program: bool) -> Progress
         count: 0,
         inside: 0,
     };
-    if program {
-        return Progress {
-            state: State::In(Word::Window, 0),
-            at: 0,
-            series: none,
-            query: none,
-        };
-    }
+    let word = if program { Word::Window } else { Word::Line };
     Progress {
-        state: State::In(Word::Line, 0),
+        state: State::In(word, 0),
         at: 0,
         series: none,
         query: none,
@@ -76,21 +69,18 @@ fn fine(p: Progress) -> Lines
 fn ended(text: &[u8], p: Progress) -> Lines
     ensures { result ≡ end_told text.now p p.state }
 {
-    let s = p.state;
-    match s {
-        State::In(_, _) => bad(text, p.at),
-        State::At(_, _) => bad(text, p.at),
-        State::Before(_) => bad(text, p.at),
+    match p.state {
         State::Done => fine(p),
+        _ => bad(text, p.at),
     }
 }
 
-fn answer(text: &[u8], f: Feeding) -> Lines
-    ensures { result ≡ answer_told text.now f }
+fn answer(text: &[u8], read: Result<Progress, usize>) -> Lines
+    ensures { result ≡ answer_told text.now read }
 {
-    match f {
-        Feeding::Going(p) => ended(text, p),
-        Feeding::Failed(at) => bad(text, at),
+    match read {
+        Ok(p) => ended(text, p),
+        Err(at) => bad(text, at),
     }
 }
 
@@ -99,10 +89,7 @@ fn piece_end(at: usize, size: usize, length: usize) -> usize
     requires { at ≤ length }
     ensures { result ≡ min (at + size) length }
 {
-    if size < length - at {
-        return at + size;
-    }
-    length
+    at + size.min(length - at)
 }
 
 // The next piece of a text, of this size or shorter.
@@ -113,7 +100,7 @@ fn piece(
     numbers: &mut [i64],
     series: &mut [i32],
     query: &mut [i32],
-) -> Feeding
+) -> Result<Progress, usize>
     requires { Stands (length text.now) p }
     ensures { Fed text.now (min (p.at + size) (length text.now)) p result numbers.old series.old query.old numbers.new series.new query.new }
 {
@@ -135,14 +122,12 @@ pub extern "C" fn lines_read(
     ensures { LinesTold program text.now numbers.old series.old query.old result numbers.new series.new query.new }
 {
     let mut p = begin(program);
-    let mut k = 0;
-    while k < sizes.len() {
+    for k in 0..sizes.len() {
         match piece(p, text, sizes[k], numbers, series, query) {
-            Feeding::Going(n) => {
+            Ok(n) => {
                 p = n;
-                k += 1;
             }
-            Feeding::Failed(place) => {
+            Err(place) => {
                 return bad(text, place);
             }
         }

@@ -1,17 +1,12 @@
 -- A place told by a number, and the kind of a query.
 use Rattle.meaning_numbers.proofs.Prelude.{◌≡◌, refl, sym, subst, ◌∙◌, Bool, true, false, Option, None, Some, ℕ, zero, suc, T}
 use Rattle.meaning_filter.specs.{declared.Kind.Kind, declared.Kind.TheVariants.Raw, declared.Kind.TheVariants.Normal}
-use Rattle.values.specs.Place.{placed}
-use Rattle.values.specs.declared.Place.TheVariants.{At, Nowhere}
-use Rattle.try_c_distance.proofs.Answers.{none-placed, some-placed}
+use Rattle.std.specs.Option.{unwrap_or}
 use Rattle.try_c_match.specs.Told.{place_or, kind_of}
 
-pub place_at : (n : ℕ) (o : Option ℕ) {p : ℕ} → placed o ≡ At p → p ≡ place_or n o
-place_at n None e = absurd (some-placed refl e)
-place_at n (Some p) e = cc
-
-pub place_none : (n : ℕ) (o : Option ℕ) → placed o ≡ Nowhere → n ≡ place_or n o
-place_none n o e = rw (none-placed o e)
+pub place-is : (n : ℕ) (o : Option ℕ) → unwrap_or o n ≡ place_or n o
+place-is n None = refl
+place-is n (Some p) = refl
 
 abbrev raw : Kind → Bool
 raw Raw = true

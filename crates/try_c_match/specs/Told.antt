@@ -7,7 +7,6 @@ use Rattle.meaning_curves.proofs.Values.{AllIn}
 use Rattle.meaning_rows.specs.Range.{row_number}
 use Rattle.meaning_filter.specs.{declared.Kind.Kind, declared.Kind.TheVariants.Raw, declared.Kind.TheVariants.Normal, declared.Limits.Limits}
 use Rattle.distance_query.specs.Ready.{Envelopes, IsCurve}
-use Rattle.distance_within.specs.{declared.Match.Match, declared.Match.TheVariants.Yes, declared.Match.TheVariants.No}
 use Rattle.distance_match.specs.Matched.{matched}
 use Rattle.try_c_distance.specs.{Fits.Fits, Outcome.Written, Outcome.Outcome, Told.stretches}
 
@@ -26,14 +25,14 @@ abbrev pub CanPrepare : Kind → List ℤ → Type 0
 CanPrepare kind q = kind ≡ Normal → 0 < spread (at q) (length q)
 
 -- the distance and 1, or 0 for no match
-abbrev pub told_match : Match → ℕ
-told_match (Yes d) = d + 1
-told_match No = 0
+abbrev pub told_match : Option ℕ → ℕ
+told_match (Some d) = d + 1
+told_match None = 0
 
 -- the same in 64 bits
-abbrev pub wrapped : Match → ℕ
-wrapped (Yes d) = (d + 1) % 2 ^ 64
-wrapped No = 0
+abbrev pub wrapped : Option ℕ → ℕ
+wrapped (Some d) = (d + 1) % 2 ^ 64
+wrapped None = 0
 
 -- whether stretch j matches q, and its distance
 abbrev pub MatchAt : Kind → (s q : List ℤ) → Limits → ℕ → ℕ → Type 0

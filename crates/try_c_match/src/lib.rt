@@ -15,23 +15,22 @@ ghost use Rattle.meaning_numbers.specs.Root.{root};
 
 use distance_match::match_at;
 use distance_query::{Query, prepare};
-use distance_within::Match;
 use meaning_curves::{GREATEST_SCALE, LONGEST_WINDOW};
 use meaning_filter::{Kind, Limits};
 use numbers::{root, row_number};
 use try_c_distance::{all_in, fits, sums_after};
-use values::{Place, first_outside, next_window, spread_of, sums_at, window_sum};
+use values::{first_outside, next_window, spread_of, sums_at, window_sum};
 
 // The longest window, as an index.
 const WINDOW: usize = LONGEST_WINDOW as usize;
 
 // The distance and 1, or 0 for no match.
-pub fn told(found: Match) -> u64
+pub fn told(found: Option<u64>) -> u64
     ensures { result ≡ wrapped found }
 {
     match found {
-        Match::Yes { distance } => std::num::wrapping_add_u64(distance, 1),
-        Match::No => 0,
+        Some(distance) => distance.wrapping_add(1),
+        None => 0,
     }
 }
 
@@ -58,14 +57,13 @@ pub fn each_match(
     let n = s.len();
     let m = q.len();
     let mut t = sums_at(s, 0, m);
-    let mut at: usize = 0;
-    while at <= n - m {
+    let stretches = n - m + 1;
+    for at in 0..stretches {
         let found = match_at(kind, s, at, t, q, query, curve, low, high, l, room, row);
         out[at] = told(found);
         t = sums_after(s, at, m, t);
-        at += 1;
     }
-    at
+    stretches
 }
 
 // A kind by its number: 0 is raw.
@@ -89,11 +87,7 @@ pub fn can_prepare(kind: Kind, q: &[i32]) -> bool
         Kind::Normal => {
             let m = q.len();
             let t = sums_at(q, 0, m);
-            let a = spread_of(q, 0, m, t);
-            if a == 0 {
-                return false;
-            }
-            true
+            spread_of(q, 0, m, t) != 0
         }
     }
 }
@@ -147,9 +141,9 @@ pub fn curve_matches(
     }
     let l = Limits {
         band: b,
-        threshold: threshold,
-        scale: scale,
-        shift: shift,
+        threshold,
+        scale,
+        shift,
     };
     let query = prepare(k, q, b as usize, curve, low, high);
     each_match(k, s, q, query, curve, low, high, l, room, row, out)
@@ -174,10 +168,7 @@ pub fn window_after(s: &[i32], w: usize, at: usize, sum: i32) -> i32
 pub fn curve_outside(s: &[i32]) -> usize
     ensures { result ≡ place_or (length s.now) (first_outside s.now) }
 {
-    match first_outside(s) {
-        Place::At(k) => k,
-        Place::Nowhere => s.len(),
-    }
+    first_outside(s).unwrap_or(s.len())
 }
 
 // The sum of each window of `w` values into `sums`, and the row that holds it, at the width `d`, into `rows`. How many were written.
@@ -195,14 +186,13 @@ pub fn curve_windows(s: &[i32], w: usize, d: u32, sums: &mut [i32], rows: &mut [
         return 0;
     }
     let mut sum = window_sum(s, w, 0);
-    let mut at: usize = 0;
-    while at <= n - w {
+    let windows = n - w + 1;
+    for at in 0..windows {
         sums[at] = sum;
         rows[at] = row_number(sum, d);
         sum = window_after(s, w, at, sum);
-        at += 1;
     }
-    at
+    windows
 }
 
 pub fn curve_root(y: u64) -> u64

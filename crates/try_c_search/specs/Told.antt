@@ -1,7 +1,7 @@
 -- A search as C asks for it and is told its answer: a kind and numbers.
-use Rattle.std.specs.Prelude.{ℕ, eqb, true, false, ◌≡◌}
+use Rattle.std.specs.Prelude.{ℕ, eqb, true, false, ◌≡◌, Ok, Err}
 use Rattle.meaning_filter.specs.{declared.Kind.Kind, declared.Limits.Limits, declared.Pick.Pick, declared.Ask.Ask}
-use Rattle.meaning_entries.specs.{declared.Found.Found, Search.SearchCall, Search.SearchBuffers, Search.search_answer, Search.search_after}
+use Rattle.meaning_entries.specs.{declared.Found.Found, Answers.SearchAnswer, Search.SearchCall, Search.SearchBuffers, Search.search_answer, Search.search_after}
 use Rattle.try_c_search.specs.{declared.Asked.Asked, declared.Answer.Answer}
 
 -- 0: raw; any other number: normalised
@@ -22,11 +22,11 @@ abbrev pub numbers_of : ℕ → ℕ → ℕ → Answer
 numbers_of kind first second = record { kind = kind; first = first; second = second }
 
 -- 0: candidates and matches, all listed; 1: the same, the list is full; 2: the same, the closest few are listed; 3: the refusal's number and place
-unfoldable pub told_found : Found → Answer
-told_found (Found.All candidates matches) = numbers_of 0 candidates matches
-told_found (Found.Full candidates matches) = numbers_of 1 candidates matches
-told_found (Found.Few candidates matches) = numbers_of 2 candidates matches
-told_found (Found.Refused number place) = numbers_of 3 number place
+unfoldable pub told_found : SearchAnswer → Answer
+told_found (Ok (Found.All candidates matches)) = numbers_of 0 candidates matches
+told_found (Ok (Found.Full candidates matches)) = numbers_of 1 candidates matches
+told_found (Ok (Found.Few candidates matches)) = numbers_of 2 candidates matches
+told_found (Err r) = numbers_of 3 r.number r.place
 
 -- the answer of a search is told, and its buffers are as it leaves them
 pub record SearchTold (c : SearchCall) (before : SearchBuffers) (answer : Answer) (after : SearchBuffers) : Type 0 where

@@ -6,7 +6,7 @@ ghost use Rattle.meaning_entries.specs.Search.{lent_search};
 ghost use Rattle.try_c_search.specs.Told.{kind_of, limits_of, pick_of, ask_of, numbers_of, told_found, SearchTold};
 
 use entry_search::search;
-use meaning_entries::Found;
+use meaning_entries::{Found, Refusal};
 use meaning_filter::{Ask, Kind, Limits, Pick};
 use meaning_rows::{Head, Row};
 
@@ -68,10 +68,11 @@ fn pick_of(asked: Asked) -> Pick
 fn ask_of(asked: Asked) -> Ask
     ensures { result ≡ ask_of asked }
 {
-    let kind = kind_of(asked);
-    let limits = limits_of(asked);
-    let pick = pick_of(asked);
-    Ask { kind, limits, pick }
+    Ask {
+        kind: kind_of(asked),
+        limits: limits_of(asked),
+        pick: pick_of(asked),
+    }
 }
 
 // A kind and two numbers.
@@ -79,30 +80,30 @@ fn numbers(kind: u32, first: usize, second: usize) -> Answer
     ensures { result ≡ numbers_of kind first second }
 {
     Answer {
-        kind: kind,
-        first: first,
-        second: second,
+        kind,
+        first,
+        second,
     }
 }
 
 // What a search answers.
-fn tell_found(a: Found) -> Answer
-    ensures { result ≡ told_found a }
+fn tell_found(answer: Result<Found, Refusal>) -> Answer
+    ensures { result ≡ told_found answer }
 {
-    match a {
-        Found::All {
+    match answer {
+        Ok(Found::All {
             candidates,
             matches,
-        } => numbers(0, candidates, matches),
-        Found::Full {
+        }) => numbers(0, candidates, matches),
+        Ok(Found::Full {
             candidates,
             matches,
-        } => numbers(1, candidates, matches),
-        Found::Few {
+        }) => numbers(1, candidates, matches),
+        Ok(Found::Few {
             candidates,
             matches,
-        } => numbers(2, candidates, matches),
-        Found::Refused { number, place } => numbers(3, number as usize, place),
+        }) => numbers(2, candidates, matches),
+        Err(r) => numbers(3, r.number as usize, r.place),
     }
 }
 
@@ -125,8 +126,7 @@ pub extern "C" fn index_search(
     ensures { SearchTold (lent_search series.now head rows.now left.now right.now (ask_of asked) query.now) (record { left = first.old; right = last.old; scratch = scratch.old; offsets = offsets.old; distances = distances.old }) result (record { left = first.new; right = last.new; scratch = scratch.new; offsets = offsets.new; distances = distances.new }) }
 {
     let ask = ask_of(asked);
-    let a = search(
+    tell_found(search(
         series, head, rows, left, right, ask, query, first, last, scratch, offsets, distances,
-    );
-    tell_found(a)
+    ))
 }

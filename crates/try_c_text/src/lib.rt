@@ -3,23 +3,13 @@
 
 ghost use Rattle.std.specs.Prelude.{◌≡◌};
 ghost use Rattle.meaning_rows.specs.Index.{lent};
-ghost use Rattle.try_c_text.specs.Told.{told_loaded, LoadTold, told_written, WriteTold};
+ghost use Rattle.try_c_text.specs.Told.{LoadTold, told_written, WriteTold};
 
 use entry_read::read;
 use entry_write::write;
-use meaning_entries::{Loaded, Written};
+use meaning_entries::Refusal;
 use meaning_rows::{Head, Row};
-use try_c_index::{Answer, index_told, numbers};
-
-// What a reading answers: 0 the index's head, and how many rows and runs it has; 3 the refusal's number and place.
-fn tell_loaded(a: Loaded) -> Answer
-    ensures { result ≡ told_loaded a }
-{
-    match a {
-        Loaded::Index { head, rows, runs } => index_told(head, rows, runs),
-        Loaded::Refused { number, place } => numbers(3, number as usize, place),
-    }
-}
+use try_c_index::{Answer, numbers, tell_built};
 
 // The entry read.
 #[unsafe(no_mangle)]
@@ -31,17 +21,16 @@ pub extern "C" fn text_read(
 ) -> Answer
     ensures { LoadTold text.now (record { rows = rows.old; left = left.old; right = right.old }) result (record { rows = rows.new; left = left.new; right = right.new }) }
 {
-    let a = read(text, rows, left, right);
-    tell_loaded(a)
+    tell_built(read(text, rows, left, right))
 }
 
 // What a writing answers: 0 the text's length; 3 the refusal's number and place.
-fn tell_written(a: Written) -> Answer
-    ensures { result ≡ told_written a }
+fn tell_written(answer: Result<usize, Refusal>) -> Answer
+    ensures { result ≡ told_written answer }
 {
-    match a {
-        Written::Text { length } => numbers(0, length, 0),
-        Written::Refused { number, place } => numbers(3, number as usize, place),
+    match answer {
+        Ok(length) => numbers(0, length, 0),
+        Err(r) => numbers(3, r.number as usize, r.place),
     }
 }
 
@@ -56,6 +45,5 @@ pub extern "C" fn text_write(
 ) -> Answer
     ensures { WriteTold (lent head rows.now left.now right.now) text.old result text.new }
 {
-    let a = write(head, rows, left, right, text);
-    tell_written(a)
+    tell_written(write(head, rows, left, right, text))
 }

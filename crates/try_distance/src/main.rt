@@ -25,13 +25,8 @@ fn agree(got: &[u64], k: usize, nums: &[u64], at: usize, e: u64) -> bool {
     if get_length(nums, at, 32) != k {
         return false;
     }
-    let mut j: usize = 0;
-    while j < k {
-        j += 1;
-        let p = plus(at, j);
-        let want = get(nums, p);
-        let x = got[j - 1];
-        if !same(x, want, e) {
+    for j in 0..k {
+        if !same(got[j], get(nums, plus(at, plus(j, 1))), e) {
             return false;
         }
     }
@@ -40,15 +35,10 @@ fn agree(got: &[u64], k: usize, nums: &[u64], at: usize, e: u64) -> bool {
 
 // Whether the values are those from the place `at` on.
 fn agree_values(got: &[i32], nums: &[u64], at: usize) -> bool {
-    let mut j: usize = 0;
-    while j < got.len() {
-        let p = plus(at, j);
-        let want = get(nums, p);
-        let x = got[j];
-        if value(want) != x {
+    for j in 0..got.len() {
+        if got[j] != value(get(nums, plus(at, j))) {
             return false;
         }
-        j += 1;
     }
     true
 }
@@ -331,8 +321,8 @@ fn one_turn(nums: &[u64], t: Turn, test: u64) -> Turn {
     let one = good as u64;
     Turn {
         at: plus(plus(last, 5), answers),
-        agreed: std::num::wrapping_add_u64(t.agreed, one),
-        tried: std::num::wrapping_add_u64(t.tried, 1),
+        agreed: t.agreed.wrapping_add(one),
+        tried: t.tried.wrapping_add(1),
     }
 }
 
@@ -357,10 +347,8 @@ fn run(nums: &[u64], turns: u64) {
         agreed: 0,
         tried: 0,
     };
-    let mut left = turns;
-    while 0 < left {
+    for _ in 0..turns {
         t = step(nums, t);
-        left -= 1;
     }
 }
 

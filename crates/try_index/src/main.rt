@@ -3,10 +3,11 @@
 
 ghost use Rattle.std.specs.Prelude.{◌≤◌};
 
-use meaning_entries::{Audited, Built, Extended};
+use entry_audit::audit;
+use entry_build::build;
+use entry_extend::extend;
+use meaning_entries::{Audited, Held, Refusal};
 use meaning_rows::{Head, Row};
-use numbers::shorter;
-use try_table::{audit_table, build_table, extend_table};
 use try_vectors::{
     get_head, get_length, get_natural, get_numbers, get_row, get_small, get_values, plus,
     read_numbers,
@@ -20,17 +21,20 @@ fn row_place(at: usize, k: usize) -> usize {
     plus(at, plus(two, two))
 }
 
+// The rows of a buffer that nothing has written to: they differ from what an entry writes.
+fn rubbish(runs: u32) -> [Row; 64] {
+    [Row {
+        low: 7,
+        up: 9,
+        first: 5,
+        runs,
+    }; 64]
+}
+
 fn get_rows(nums: &[u64], at: usize) -> [Row; 64] {
-    let mut rows = [Row {
-        low: 0,
-        up: 0,
-        first: 0,
-        runs: 0,
-    }; 64];
-    let mut k: usize = 0;
-    while k < 64 {
+    let mut rows = rubbish(0);
+    for k in 0..64 {
         rows[k] = get_row(nums, row_place(at, k));
-        k += 1;
     }
     rows
 }
@@ -60,23 +64,21 @@ fn find_index(nums: &[u64], at: usize) -> Places
     let right = plus(third, 1);
     Places {
         head: at,
-        rows: rows,
-        left: left,
-        lefts: lefts,
-        right: right,
-        rights: rights,
+        rows,
+        left,
+        lefts,
+        right,
+        rights,
         end: plus(right, rights),
     }
 }
 
 // What a run buffer holds before a build or an extension: numbers from `x` on.
 fn fill_rubbish(out: &mut [u32], x: u32) {
-    let mut k: usize = 0;
     let mut y = x;
-    while k < out.len() {
+    for k in 0..out.len() {
         out[k] = y;
-        y = std::num::wrapping_add_u32(y, 1);
-        k += 1;
+        y = y.wrapping_add(1);
     }
 }
 
@@ -84,46 +86,30 @@ fn fill_rubbish(out: &mut [u32], x: u32) {
 
 // Whether the numbers are those from the place `at` on.
 fn agree_numbers(got: &[u32], nums: &[u64], at: usize) -> bool {
-    let mut k: usize = 0;
-    while k < got.len() {
-        let want = get_small(nums, plus(at, k));
-        let x = got[k];
-        if want != x {
+    for k in 0..got.len() {
+        if got[k] != get_small(nums, plus(at, k)) {
             return false;
         }
-        k += 1;
     }
     true
 }
 
-fn same_row(r: Row, want: Row) -> bool {
-    (r.low == want.low) & (r.up == want.up) & (r.first == want.first) & (r.runs == want.runs)
-}
-
 // Whether the rows are the `count` rows from the place `at` on, and every other the one behind them.
 fn agree_rows(rows: [Row; 64], nums: &[u64], at: usize, count: usize) -> bool {
-    let mut k: usize = 0;
-    while k < 64 {
-        let want = get_row(nums, row_place(at, shorter(k, count)));
-        let r = rows[k];
-        if !same_row(r, want) {
+    for k in 0..64 {
+        if rows[k] != get_row(nums, row_place(at, k.min(count))) {
             return false;
         }
-        k += 1;
     }
     true
 }
 
 // Whether an answer of this kind, with this head and these numbers, stands at the place `at`.
 fn agree_told(nums: &[u64], at: usize, kind: u64, head: Head, first: usize, second: usize) -> bool {
-    let want = get_head(nums, plus(at, 1));
-    let same = (head.window == want.window)
-        & (head.width == want.width)
-        & (head.windows == want.windows);
-    let told = get_natural(nums, at) == kind;
-    let one = get_natural(nums, plus(at, 4)) == first as u64;
-    let two = get_natural(nums, plus(at, 5)) == second as u64;
-    same & told & one & two
+    get_natural(nums, at) == kind
+        && get_head(nums, plus(at, 1)) == head
+        && get_natural(nums, plus(at, 4)) == first as u64
+        && get_natural(nums, plus(at, 5)) == second as u64
 }
 
 fn agree_numbered(nums: &[u64], at: usize, kind: u64, first: usize, second: usize) -> bool {
@@ -135,26 +121,24 @@ fn agree_numbered(nums: &[u64], at: usize, kind: u64, first: usize, second: usiz
     agree_told(nums, at, kind, none, first, second)
 }
 
-fn agree_built(a: Built, nums: &[u64], at: usize) -> bool {
-    match a {
-        Built::Index { head, rows, runs } => agree_told(nums, at, 0, head, rows, runs),
-        Built::Refused { number, place } => agree_numbered(nums, at, 3, number as usize, place),
+fn agree_refused(r: Refusal, nums: &[u64], at: usize) -> bool {
+    agree_numbered(nums, at, 3, r.number as usize, r.place)
+}
+
+// Of a build or an extension.
+fn agree_made(answer: Result<Held, Refusal>, nums: &[u64], at: usize) -> bool {
+    match answer {
+        Ok(made) => agree_told(nums, at, 0, made.head, made.rows, made.runs),
+        Err(r) => agree_refused(r, nums, at),
     }
 }
 
-fn agree_extended(a: Extended, nums: &[u64], at: usize) -> bool {
-    match a {
-        Extended::Index { head, rows, runs } => agree_told(nums, at, 0, head, rows, runs),
-        Extended::Refused { number, place } => agree_numbered(nums, at, 3, number as usize, place),
-    }
-}
-
-fn agree_audited(a: Audited, nums: &[u64], at: usize) -> bool {
-    match a {
-        Audited::Yes => agree_numbered(nums, at, 0, 0, 0),
-        Audited::Wrong { row, offset } => agree_numbered(nums, at, 1, row, offset),
-        Audited::Missing { count } => agree_numbered(nums, at, 2, count, 0),
-        Audited::Refused { number, place } => agree_numbered(nums, at, 3, number as usize, place),
+fn agree_audited(answer: Result<Audited, Refusal>, nums: &[u64], at: usize) -> bool {
+    match answer {
+        Ok(Audited::Yes) => agree_numbered(nums, at, 0, 0, 0),
+        Ok(Audited::Wrong { row, offset }) => agree_numbered(nums, at, 1, row, offset),
+        Ok(Audited::Missing { count }) => agree_numbered(nums, at, 2, count, 0),
+        Err(r) => agree_refused(r, nums, at),
     }
 }
 
@@ -196,11 +180,10 @@ fn build_in(nums: &[u64], at: usize, s: &[i32], left: &mut [u32], right: &mut [u
     let g = get_small(nums, plus(at, 2));
     fill_rubbish(left, 1000);
     fill_rubbish(right, 2000);
-    let t = build_table(s, w, d, g, left, right);
+    let mut rows = rubbish(w);
+    let answer = build(s, w, d, g, &mut rows, left, right);
     let from = plus(at, 5);
-    let answer = t.answer;
-    let rows = t.rows;
-    let told = agree_built(answer, nums, from);
+    let told = agree_made(answer, nums, from);
     judge_made(told, rows, nums, from, left, right)
 }
 
@@ -233,11 +216,19 @@ fn extend_in(
     let table = get_rows(nums, plus(p.head, 4));
     fill_rubbish(left, 1000);
     fill_rubbish(right, 2000);
-    let t = extend_table(s, head, table, p.rows, lefts, rights, left, right);
+    let mut rows = rubbish(head.window);
+    let answer = extend(
+        s,
+        head,
+        &table[..p.rows],
+        lefts,
+        rights,
+        &mut rows,
+        left,
+        right,
+    );
     let from = plus(p.end, 2);
-    let answer = t.answer;
-    let rows = t.rows;
-    let told = agree_extended(answer, nums, from);
+    let told = agree_made(answer, nums, from);
     judge_made(told, rows, nums, from, left, right)
 }
 
@@ -272,7 +263,7 @@ fn audit_in(nums: &[u64], p: Places, s: &[i32], left: &[u32], right: &[u32]) -> 
 {
     let head = get_head(nums, p.head);
     let table = get_rows(nums, plus(p.head, 4));
-    let a = audit_table(s, head, table, p.rows, left, right);
+    let a = audit(s, head, &table[..p.rows], left, right);
     Tried {
         good: agree_audited(a, nums, p.end),
         at: plus(p.end, 6),
@@ -354,8 +345,8 @@ fn step(nums: &[u64], t: Turn) -> Turn {
     let good = one.good as u64;
     Turn {
         at: one.at,
-        agreed: std::num::wrapping_add_u64(t.agreed, good),
-        tried: std::num::wrapping_add_u64(t.tried, 1),
+        agreed: t.agreed.wrapping_add(good),
+        tried: t.tried.wrapping_add(1),
     }
 }
 
@@ -366,10 +357,8 @@ fn run(nums: &[u64]) {
         agreed: 0,
         tried: 0,
     };
-    let mut left = get_natural(nums, 0);
-    while 0 < left {
+    for _ in 0..get_natural(nums, 0) {
         t = step(nums, t);
-        left -= 1;
     }
 }
 

@@ -1,11 +1,10 @@
 // Runs the vectors of its standard input (tests/model/search_vectors.rs writes them: the paper's cases, then answers of the model) through the entry that searches, and says of each group how many agree.
 #![tactic(auto)]
 
-use meaning_curves::MOST_PROGRAM_VALUES;
-use meaning_entries::Found;
+use entry_search::search;
+use meaning_entries::{Found, Refusal};
 use meaning_filter::{Ask, Kind, Limits, Pick};
 use meaning_rows::Row;
-use program_table::search_table;
 use try_vectors::{
     get_head, get_length, get_natural, get_numbers, get_row, get_small, get_values, plus,
     read_numbers,
@@ -19,17 +18,15 @@ fn behind(nums: &[u64], at: usize) -> usize {
 }
 
 // The first 64 rows of a list of four numbers each.
-fn get_rows(nums: &[u64], at: usize) -> [Row; MOST_PROGRAM_VALUES] {
+fn get_rows(nums: &[u64], at: usize) -> [Row; 64] {
     let mut rows = [Row {
         low: 0,
         up: 0,
         first: 0,
         runs: 0,
-    }; MOST_PROGRAM_VALUES];
-    let mut k: usize = 0;
-    while k < 64 {
+    }; 64];
+    for k in 0..64 {
         rows[k] = get_row(nums, plus(plus(at, 1), k * 4));
-        k += 1;
     }
     rows
 }
@@ -52,77 +49,54 @@ fn get_limits(nums: &[u64], at: usize) -> Limits {
 
 // ---- comparing
 
-// Whether the entries are those of the list at a place.
+// Whether the offsets, or ends of runs, are those of the list at a place.
 fn agree_offsets(got: &[u32], nums: &[u64], at: usize) -> bool {
     let from = plus(at, 1);
-    let mut k: usize = 0;
-    while k < got.len() {
-        let want = get_small(nums, plus(from, k));
-        let x = got[k];
-        if want != x {
+    for k in 0..got.len() {
+        if got[k] != get_small(nums, plus(from, k)) {
             return false;
         }
-        k += 1;
     }
     true
 }
 
-fn wide(x: u16) -> u64 {
-    x as u64
-}
-
-fn agree_counts(got: &[u16], nums: &[u64], at: usize) -> bool {
+// Of counts and distances, likewise.
+fn agree_list<T: Copy>(got: &[T], nums: &[u64], at: usize) -> bool
+where
+    u64: From<T>,
+{
     let from = plus(at, 1);
-    let mut k: usize = 0;
-    while k < got.len() {
-        let want = get_natural(nums, plus(from, k));
-        let x = wide(got[k]);
-        if want != x {
+    for k in 0..got.len() {
+        if u64::from(got[k]) != get_natural(nums, plus(from, k)) {
             return false;
         }
-        k += 1;
-    }
-    true
-}
-
-fn agree_distances(got: &[u64], nums: &[u64], at: usize) -> bool {
-    let from = plus(at, 1);
-    let mut k: usize = 0;
-    while k < got.len() {
-        let want = get_natural(nums, plus(from, k));
-        let x = got[k];
-        if want != x {
-            return false;
-        }
-        k += 1;
     }
     true
 }
 
 // Whether three numbers stand at a place.
 fn agree_told(nums: &[u64], at: usize, kind: u64, first: usize, second: usize) -> bool {
-    let told = get_natural(nums, at) == kind;
-    let one = get_natural(nums, plus(at, 1)) == first as u64;
-    let two = get_natural(nums, plus(at, 2)) == second as u64;
-    told & one & two
+    get_natural(nums, at) == kind
+        && get_natural(nums, plus(at, 1)) == first as u64
+        && get_natural(nums, plus(at, 2)) == second as u64
 }
 
 // An answer: 0 and both counts; 1, both counts and a full list; 3 and the refusal's number and place.
-fn agree_found(a: Found, nums: &[u64], at: usize) -> bool {
-    match a {
-        Found::All {
+fn agree_found(answer: Result<Found, Refusal>, nums: &[u64], at: usize) -> bool {
+    match answer {
+        Ok(Found::All {
             candidates,
             matches,
-        } => agree_told(nums, at, 0, candidates, matches),
-        Found::Full {
+        }) => agree_told(nums, at, 0, candidates, matches),
+        Ok(Found::Full {
             candidates,
             matches,
-        } => agree_told(nums, at, 1, candidates, matches),
-        Found::Few {
+        }) => agree_told(nums, at, 1, candidates, matches),
+        Ok(Found::Few {
             candidates,
             matches,
-        } => agree_told(nums, at, 2, candidates, matches),
-        Found::Refused { number, place } => agree_told(nums, at, 3, number as usize, place),
+        }) => agree_told(nums, at, 2, candidates, matches),
+        Err(r) => agree_told(nums, at, 3, r.number as usize, r.place),
     }
 }
 
@@ -162,18 +136,18 @@ fn places_of(nums: &[u64], at: usize) -> Places {
     let offsets = behind(nums, scratch);
     Places {
         series: at,
-        head: head,
-        rows: rows,
-        left: left,
-        right: right,
-        kind: kind,
-        query: query,
-        limits: limits,
-        answer: answer,
-        first: first,
-        last: last,
-        scratch: scratch,
-        offsets: offsets,
+        head,
+        rows,
+        left,
+        right,
+        kind,
+        query,
+        limits,
+        answer,
+        first,
+        last,
+        scratch,
+        offsets,
         distances: behind(nums, offsets),
     }
 }
@@ -199,16 +173,15 @@ fn search_lent(
     let limits = get_limits(nums, p.limits);
     let pick = Pick::All;
     let ask = Ask { kind, limits, pick };
-    let a = search_table(
-        series, head, rows, n, left, right, ask, query, first, last, scratch, offsets, distances,
+    let answer = search(
+        series, head, &rows[..n], left, right, ask, query, first, last, scratch, offsets, distances,
     );
-    let told = agree_found(a, nums, p.answer);
-    let one = agree_offsets(first, nums, p.first);
-    let two = agree_offsets(last, nums, p.last);
-    let three = agree_counts(scratch, nums, p.scratch);
-    let four = agree_offsets(offsets, nums, p.offsets);
-    let five = agree_distances(distances, nums, p.distances);
-    told & one & two & three & four & five
+    agree_found(answer, nums, p.answer)
+        && agree_offsets(first, nums, p.first)
+        && agree_offsets(last, nums, p.last)
+        && agree_list(scratch, nums, p.scratch)
+        && agree_offsets(offsets, nums, p.offsets)
+        && agree_list(distances, nums, p.distances)
 }
 
 // The same with room for series and query.
@@ -364,8 +337,8 @@ fn step(nums: &[u64], t: Turn) -> Turn {
     let good = search_one(nums, p);
     Turn {
         at: behind(nums, p.distances),
-        agreed: std::num::wrapping_add_u64(t.agreed, good as u64),
-        tried: std::num::wrapping_add_u64(t.tried, 1),
+        agreed: t.agreed.wrapping_add(good as u64),
+        tried: t.tried.wrapping_add(1),
     }
 }
 
@@ -375,10 +348,8 @@ fn run(nums: &[u64], turns: u64) {
         agreed: 0,
         tried: 0,
     };
-    let mut left = turns;
-    while 0 < left {
+    for _ in 0..turns {
         t = step(nums, t);
-        left -= 1;
     }
 }
 

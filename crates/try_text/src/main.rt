@@ -3,12 +3,13 @@
 
 ghost use Rattle.std.specs.Prelude.{◌≤◌, length};
 
-use entry_read::{answer, load_runs};
-use meaning_curves::MOST_PROGRAM_VALUES;
-use meaning_entries::{Loaded, Written};
-use meaning_rows::{Head, Row};
-use program_table::write_table;
-use text_rows::{line_row, next_line, no_line};
+use entry_read::read;
+use entry_write::write;
+use meaning_entries::{Held, Refusal};
+use meaning_rows::Row;
+
+// The most rows that a text is read into.
+const ROWS: usize = 8;
 
 fn show(word: &[u8], first: u64, second: u64) {
     io::write_all(1, b"(");
@@ -20,99 +21,78 @@ fn show(word: &[u8], first: u64, second: u64) {
     io::write_all(1, b")\n");
 }
 
-// ---- writing back
+fn show_refused(r: Refusal) {
+    show(b"refused", r.number as u64, r.place as u64);
+}
 
-// The first three rows of a text, as row records; zeros where it has fewer.
-fn first_rows(text: &[u8]) -> [Row; MOST_PROGRAM_VALUES] {
-    let mut rows = [Row {
+fn no_rows() -> [Row; ROWS] {
+    [Row {
         low: 0,
         up: 0,
         first: 0,
         runs: 0,
-    }; MOST_PROGRAM_VALUES];
-    let a = next_line(text, no_line());
-    let b = next_line(text, a);
-    let c = next_line(text, b);
-    rows[0] = line_row(a);
-    rows[1] = line_row(b);
-    rows[2] = line_row(c);
-    rows
-}
-
-// What the entry write answered, and what it wrote.
-fn show_written(a: Written, out: &[u8]) {
-    match a {
-        Written::Text { length } => {
-            if length <= out.len() {
-                io::write_all(1, &out[..length]);
-            }
-        }
-        Written::Refused { number, place } => show(b"refused", number as u64, place as u64),
-    }
-}
-
-// An index of at most three rows that was read from a text, written.
-fn write_back(text: &[u8], head: Head, rows: usize, left: &[u32], right: &[u32], out: &mut [u8]) {
-    if rows <= 3 {
-        let a = write_table(head, first_rows(text), rows, left, right, out);
-        show_written(a, out);
-    }
+    }; ROWS]
 }
 
 // ---- reading
 
-fn show_read(a: Loaded) {
-    match a {
-        Loaded::Index {
-            head: _,
-            rows,
-            runs,
-        } => show(b"read", rows as u64, runs as u64),
-        Loaded::Refused { number, place } => show(b"refused", number as u64, place as u64),
+fn show_read(answer: Result<Held, Refusal>) {
+    match answer {
+        Ok(made) => show(b"read", made.rows as u64, made.runs as u64),
+        Err(r) => show_refused(r),
     }
 }
 
 // A text read where there is room for so many rows, and enough for its runs.
-fn try_rows(text: &[u8], rows: usize) {
+fn try_rows(text: &[u8], rows: usize)
+    requires { rows ≤ 8 }
+{
+    let mut table = no_rows();
     let mut left = [7u32; 16];
     let mut right = [7u32; 16];
-    let p = load_runs(text, rows, &mut left, &mut right);
-    show_read(answer(p));
+    show_read(read(text, &mut table[..rows], &mut left, &mut right));
 }
 
 // The same with room for two runs.
 fn try_two(text: &[u8]) {
+    let mut table = no_rows();
     let mut left = [7u32; 2];
     let mut right = [7u32; 2];
-    let p = load_runs(text, 8, &mut left, &mut right);
-    show_read(answer(p));
+    show_read(read(text, &mut table, &mut left, &mut right));
 }
 
-// A text read, and written back where it can be read.
-fn try_back(text: &[u8], out: &mut [u8]) {
-    let mut left = [7u32; 16];
-    let mut right = [7u32; 16];
-    let p = load_runs(text, 8, &mut left, &mut right);
-    match answer(p) {
-        Loaded::Index {
-            head,
-            rows,
-            runs: _,
-        } => {
-            write_back(text, head, rows, &left, &right, out);
+// ---- writing back
+
+// What the entry write answered, and what it wrote.
+fn show_written(answer: Result<usize, Refusal>, out: &[u8]) {
+    match answer {
+        Ok(length) => {
+            if length <= out.len() {
+                io::write_all(1, &out[..length]);
+            }
         }
-        Loaded::Refused {
-            number: _,
-            place: _,
-        } => {}
+        Err(r) => show_refused(r),
     }
 }
 
+// A text read, and written back where it can be read and has at most three rows.
+fn try_back(text: &[u8], out: &mut [u8]) {
+    let mut table = no_rows();
+    let mut left = [7u32; 16];
+    let mut right = [7u32; 16];
+    if let Ok(made) = read(text, &mut table, &mut left, &mut right) {
+        if made.rows <= 3 {
+            let answer = write(made.head, &table[..made.rows], &left, &right, out);
+            show_written(answer, out);
+        }
+    }
+}
+
+// ---- the texts
+
 fn truncations(text: &[u8]) {
-    let mut k = 0;
-    while k < text.len() {
-        try_rows(&text[..k], 8);
-        k += 1;
+    for k in 0..text.len() {
+        try_rows(&text[..k], ROWS);
     }
 }
 
@@ -120,28 +100,24 @@ fn try_text(text: &[u8]) {
     let mut long = [0u8; 512];
     let mut short = [0u8; 16];
     truncations(text);
-    try_rows(text, 8);
+    try_rows(text, ROWS);
     try_rows(text, 1);
     try_two(text);
     try_back(text, &mut long);
     try_back(text, &mut short);
 }
 
-// ---- the texts
-
 // The place of the next '#', or the end.
 fn end_of(text: &[u8], from: usize) -> usize
     requires { from ≤ length text.now }
     ensures { (from ≤ result) × (result ≤ length text.now) }
 {
-    let mut i = from;
-    while i < text.len() {
+    for i in from..text.len() {
         if text[i] == b'#' {
             return i;
         }
-        i += 1;
     }
-    i
+    text.len()
 }
 
 fn run(all: &[u8]) {

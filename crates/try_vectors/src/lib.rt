@@ -57,34 +57,24 @@ pub fn read_numbers(text: &[u8], out: &mut [u64]) {
     let mut k: usize = 0;
     let mut x: u64 = 0;
     let mut minus = false;
-    let mut i: usize = 0;
-    while i < text.len() {
-        let c = text[i];
+    for &c in text {
         k = put(out, k, x, minus, c);
         minus = with_minus(minus, c);
         x = with_digit(x, c);
-        i += 1;
     }
 }
 
 pub fn plus(a: usize, b: usize) -> usize {
-    std::num::wrapping_add_usize(a, b)
+    a.wrapping_add(b)
 }
 
 // The number at a place; 0 past the end.
 pub fn get(nums: &[u64], at: usize) -> u64 {
-    if nums.len() <= at {
-        return 0;
-    }
-    nums[at]
+    nums.get(at).copied().unwrap_or(0)
 }
 
 pub fn get_natural(nums: &[u64], at: usize) -> u64 {
-    let x = get(nums, at);
-    if x < 1000000000000000000 {
-        return 0;
-    }
-    x - 1000000000000000000
+    get(nums, at).saturating_sub(1000000000000000000)
 }
 
 pub fn get_small(nums: &[u64], at: usize) -> u32 {
@@ -119,22 +109,15 @@ pub fn get_length(nums: &[u64], at: usize, most: usize) -> usize
 
 // Values from the place `from` on, as many as `out` holds.
 pub fn get_values(nums: &[u64], from: usize, out: &mut [i32]) {
-    let mut k: usize = 0;
-    while k < out.len() {
-        let at = plus(from, k);
-        let x = get(nums, at);
-        out[k] = value(x);
-        k += 1;
+    for k in 0..out.len() {
+        out[k] = value(get(nums, plus(from, k)));
     }
 }
 
 // Numbers from the place `from` on, as many as `out` holds.
 pub fn get_numbers(nums: &[u64], from: usize, out: &mut [u32]) {
-    let mut k: usize = 0;
-    while k < out.len() {
-        let at = plus(from, k);
-        out[k] = get_small(nums, at);
-        k += 1;
+    for k in 0..out.len() {
+        out[k] = get_small(nums, plus(from, k));
     }
 }
 

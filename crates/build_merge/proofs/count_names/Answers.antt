@@ -1,20 +1,28 @@
-use Rattle.meaning_numbers.specs.Sum.{count}
+use Rattle.std.specs.List.{between}
+use Rattle.std.proofs.lemmas.List.Edits.{get_or-between, length-between}
 use Rattle.meaning_numbers.proofs.Count.{count_none, count-more, bit-true, bit-false}
-use Rattle.meaning_numbers.proofs.Prelude.{◌≡◌, sym, ap, ◌∙◌, ◌+◌, ◌-◌, ◌≤◌, arith, rules}
+use Rattle.meaning_numbers.proofs.Prelude.{◌≡◌, sym, ap, ◌∙◌, ◌+◌, ◌<◌, arith, List, ℕ, Bool, get_or}
+use Rattle.sums_slide.specs.Levels.{within}
 use Rattle.build_merge.specs.Names.{names_of}
 use Rattle.build_merge.proofs.count_names.Goals as goal
+use Rattle.build_merge.proofs.count_names.Goals.{then-in_range, else-in_range}
 
-pub loop-t-init : goal.loop-t-init
-loop-t-init c = (omega arith, omega arith, sym (count_none _))
+pub loop-name-init : goal.loop-name-init
+loop-name-init c = (omega arith, sym (count_none _))
 
-pub loop-t-preserved-then-in_range : goal.loop-t-preserved-then-in_range
+-- name number t of those from `first` on
+name-is : (names : List ℕ) (first n lo hi t : ℕ) {b : Bool} → t < n → b ≡ within lo hi (get_or (between first (first + n) names) t 0) → names_of names first lo hi t ≡ b
 unfolding names_of
-loop-t-preserved-then-in_range c =
-    let a = c.args in
-    (omega arith, omega arith, ap (λ x. x + 1) c.loop-t.invariant.2 ∙ sym (count-more (names_of a.names.now a.first a.lo a.hi) _ ∙ rw (bit-true (sym c.in_range.ensures ∙ c.if-in_range.true))))
+name-is names first n lo hi t l e = sym (e ∙ ap (within lo hi) (get_or-between names first (first + n) t 0 (omega arith)))
 
-pub loop-t-preserved : goal.loop-t-preserved
-unfolding names_of
-loop-t-preserved c =
+pub loop-name-preserved : goal.loop-name-preserved
+loop-name-preserved c =
     let a = c.args in
-    (omega arith, omega arith, omega (arith, c.loop-t.invariant.2, count-more (names_of a.names.now a.first a.lo a.hi) c.loop-t.t, bit-false (sym c.in_range.ensures ∙ c.if-in_range.false)))
+    let i = c.loop-name.name-index in
+    let l : i < a.n = omega (arith, length-between a.names.now a.first (a.first + a.n) c.requires, c.loop-name-test.true) in
+    let is = name-is a.names.now a.first a.n a.lo a.hi i l c.in_range.ensures in
+    let more = count-more (names_of a.names.now a.first a.lo a.hi) i in
+    elim c.if-in_range.branch [
+      | then-in_range w ↦ (omega arith, omega (arith, more, bit-true (is ∙ w.if-in_range.true)))
+      | else-in_range w ↦ (omega arith, omega (arith, more, bit-false (is ∙ w.if-in_range.false)))
+    ]

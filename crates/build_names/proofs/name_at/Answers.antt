@@ -1,14 +1,13 @@
 -- `name_at`: the sum of the place is told, the place of its row found, and that row named.
 use Rattle.meaning_numbers.proofs.Prelude.{rules, ap, ◌∙◌, w32, to_z-of_z, SFits}
 use Rattle.build_names.specs.Places.{name_for}
-use Rattle.build_names.proofs.Named.{place-few, place_is}
+use Rattle.build_names.proofs.Named.{place_is}
 use Rattle.build_names.proofs.name_at.Goals as goal
 
 pub name_of-requires : goal.name_of-requires
 name_of-requires c =
-    let fits : SFits w32 c.sum_of-sum.result = search rules in
     let h = c.requires in
-    (h.some, h.most, h.offset-small, place-few h (to_z-of_z w32 _ fits ∙ c.sum_of-sum.ensures) c.find_row-i.ensures)
+    (h.some, h.most, h.offset-small)
 
 pub returns : goal.returns
 returns c =

@@ -1,5 +1,5 @@
 -- `name_of`: there is a window where as many values follow.
-use Rattle.meaning_numbers.proofs.Prelude.{rules, lt-ltb, le-ltb, arith}
+use Rattle.meaning_numbers.proofs.Prelude.{lt-ltb, le-ltb, arith}
 use Rattle.meaning_curves.specs.Curve.{window_count}
 use Rattle.build_names.specs.Places.{name_for}
 use Rattle.build_names.proofs.name_of.Goals as goal

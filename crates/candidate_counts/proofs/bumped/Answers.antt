@@ -1,5 +1,5 @@
 -- `bumped` meets its contract.
-use Rattle.meaning_numbers.proofs.Prelude.{rules, eq-eqb, ne_eqb}
+use Rattle.meaning_numbers.proofs.Prelude.{eq-eqb, ne_eqb}
 use Rattle.candidate_counts.specs.Raise.{bump}
 use Rattle.candidate_counts.proofs.bumped.Goals as goal
 

@@ -1,21 +1,30 @@
 use mir.Val.{bool_byte}
 use Rattle.meaning_numbers.specs.Sum.{count}
 use Rattle.meaning_numbers.proofs.Count.{flag-bit, count_none, count-more, count-le}
-use Rattle.meaning_numbers.proofs.Prelude.{◌≡◌, sym, Bool, ℕ, ◌+◌, arith}
+use Rattle.meaning_numbers.proofs.Prelude.{◌≡◌, sym, List, ℕ, ◌+◌, ◌-◌, ◌<◌, eqb, arith, length, get_or, take, drop, length-take}
+use Rattle.std.proofs.lemmas.List.{get_or-take, get_or-drop}
 use Rattle.candidate_counts.specs.Handed.{stood}
 use Rattle.candidate_counts.proofs.count_at.Goals as goal
 
--- a turn looks at the offset at k
-more : (at : ℕ → Bool) (found k : ℕ) → found ≡ count at k → found + bool_byte (at k) ≡ count at (k + 1)
-more at found k e = omega (arith, e, flag-bit (at k), count-more at k)
+module _ (s : List ℕ) (p from n k : ℕ) (h : k < length (take (from + n - from) (drop from s))) where
+  inside : k < n
+  inside = omega (arith, length-take (from + n - from) (drop from s))
 
-pub loop-k-init : goal.loop-k-init
-loop-k-init c = (omega arith, sym (count_none _))
+  -- the offset at k
+  here : eqb (get_or (take (from + n - from) (drop from s)) k 0) p ≡ stood s p (from + k)
+  here = let i : k < from + n - from = omega (arith, inside) in rw (get_or-take (from + n - from) (drop from s) k 0, get_or-drop from s k 0)
 
-pub overflow_add-found-in-loop-k : goal.overflow_add-found-in-loop-k
-overflow_add-found-in-loop-k c =
-    let at = λ (j : ℕ). stood c.args.scratch.now c.args.p (c.args.from + j) in
-    omega (arith, more at c.loop-k.found c.loop-k.k c.loop-k.invariant.1, count-le at (c.loop-k.k + 1))
+  -- a turn looks at it
+  more : {found : ℕ} → found ≡ count (λ j. stood s p (from + j)) k → found + bool_byte (eqb (get_or (take (from + n - from) (drop from s)) k 0) p) ≡ count (λ j. stood s p (from + j)) (k + 1)
+  more e = let at = λ (j : ℕ). stood s p (from + j) in rw here (omega (arith, e, flag-bit (at k), count-more at k))
 
-pub loop-k-preserved : goal.loop-k-preserved
-loop-k-preserved c = (omega arith, more (λ (j : ℕ). stood c.args.scratch.now c.args.p (c.args.from + j)) c.loop-k.found c.loop-k.k c.loop-k.invariant.1)
+pub loop-x-init : goal.loop-x-init
+loop-x-init c = sym (count_none _)
+
+pub overflow_add-found : goal.overflow_add-found
+overflow_add-found c =
+    let a = c.args in
+    omega (arith, more a.scratch.now a.p a.from a.n _ c.loop-x-test.true c.loop-x.invariant, inside a.scratch.now a.p a.from a.n _ c.loop-x-test.true, count-le (λ (j : ℕ). stood a.scratch.now a.p (a.from + j)) (c.loop-x.x-index + 1))
+
+pub loop-x-preserved : goal.loop-x-preserved
+loop-x-preserved c = more c.args.scratch.now c.args.p c.args.from c.args.n _ c.loop-x-test.true c.loop-x.invariant

@@ -1,5 +1,5 @@
 -- `take_block`: a block of which none stands is passed over (`took-none`).
-use Rattle.meaning_numbers.proofs.Prelude.{rules, arith}
+use Rattle.meaning_numbers.proofs.Prelude.{arith}
 use Rattle.candidate_counts.proofs as own
 use own.Take.{took-none}
 use Rattle.candidate_counts.proofs.take_block.Goals as goal

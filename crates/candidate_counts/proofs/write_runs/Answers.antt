@@ -39,7 +39,7 @@ module _ {set : ℕ → Bool} {offsets j : ℕ} {left₀ right₀ left right : L
       record { count-is = g.count-is; found-is = rw i at (counts all t); left_is = g.left_is; right_is = g.right_is }
 
 pub loop-j-init : goal.loop-j-init
-loop-j-init c = (omega arith, sym (count_none _), filling-starts _ _ _)
+loop-j-init c = let e = c.default-out.ensures in rw (e.0, e.1.0, e.1.1) (omega arith, sym (count_none _), filling-starts _ _ _)
 
 pub take_block-out-requires : goal.take_block-out-requires
 take_block-out-requires c = let v = c.loop-j.invariant in ready v.2 v.1 c.requires.1 c.requires.2 64 (omega (arith, c.loop-j-test.true, v.0)) c.requires.0 c.requires.3

@@ -1,11 +1,8 @@
 -- `write_runs`. The invariant: the runs of the offsets passed stand at the front, and so many were found; a block takes it on (`Took`).
-use Rattle.meaning_numbers.specs.Sum.{bit, count}
-use Rattle.meaning_numbers.proofs.Count.{count_none, count-le}
-use Rattle.meaning_numbers.proofs.Prelude.{◌≡◌, sym, ap, Bool, List, ℕ, ◌+◌, ◌-◌, ◌≤◌, arith}
-use Rattle.meaning_rows.proofs.{Runs.runs-le, Runs.before-some, Columns.Filling, Columns.filling-starts, Columns.filling-left, Columns.filling-right}
-use Rattle.candidate_counts.specs.{declared.Found.Found, Handed.stood, Handed.Columns, Take.TakeReady, Take.Took}
-use Rattle.candidate_counts.proofs as own
-use own.Handed.{left-long, right-long}
+use Rattle.meaning_numbers.specs.Sum.{count}
+use Rattle.meaning_numbers.proofs.Prelude.{◌≡◌, ◌-◌, ◌≤◌}
+use Rattle.meaning_rows.proofs.{Columns.Filling}
+use Rattle.candidate_counts.specs.{Handed.stood}
 use Rattle.candidate_counts.proofs.write_runs.Given as goal
 
 abbrev pub invariant-loop-j : goal.invariant-loop-j

@@ -9,8 +9,8 @@ returns-then-a-n c =
     let a = c.args in
     rw (lt-ltb a.a a.n c.if-a-n.true, c.end_of.ensures.0, c.reached_runs.ensures.0, to_z-of_z w32 _ c.ranges.high)
 
-pub returns : goal.returns
+pub returns-else-a-n : goal.returns-else-a-n
 unfolding span_of
-returns c =
+returns-else-a-n c =
     let a = c.args in
     rw (le-ltb a.a a.n c.if-a-n.false, c.end_of.ensures.0, c.reached_runs.ensures.0, to_z-of_z w32 _ c.ranges.high)

@@ -16,5 +16,5 @@ loop-i-preserved c = meeting-next c.requires c.loop-i.invariant c.loop-i-test.tr
 
 pub returns : goal.returns
 returns c =
-    let e : c.loop-i.i ≡ c.args.parts = omega (arith, c.loop-i.invariant.inside, c.loop-i-test.false) in
+    let e : c.loop-i.i ≡ c.args.parts = omega arith in
     meeting-ends c.requires c.loop-i.invariant e

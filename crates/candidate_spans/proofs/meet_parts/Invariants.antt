@@ -1,10 +1,6 @@
--- `meet_parts`: a turn reads an entry's range, finds the stretch of runs that it meets, and stores the stretch in the entry's place (`Meeting`). The measure is how many parts are left.
-use Rattle.meaning_numbers.proofs.Prelude.{◌-◌}
+-- `meet_parts`: a turn reads an entry's range, finds the stretch of runs that it meets, and stores the stretch in the entry's place (`Meeting`).
 use Rattle.candidate_spans.proofs.MetLaws.{Meeting}
 use Rattle.candidate_spans.proofs.meet_parts.Given as goal
 
 abbrev pub invariant-loop-i : goal.invariant-loop-i
 invariant-loop-i l = Meeting l.rows l.parts l.initial.first l.initial.last l.i l.first l.last
-
-abbrev pub decreases-loop-i : goal.decreases-loop-i
-decreases-loop-i l = l.parts - l.i

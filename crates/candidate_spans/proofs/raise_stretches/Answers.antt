@@ -3,7 +3,7 @@ use Rattle.candidate_spans.proofs.Raised.{by-starts, tail-raised, by_next}
 use Rattle.candidate_spans.proofs.raise_stretches.Goals as goal
 
 pub loop-i-init : goal.loop-i-init
-loop-i-init c = (by-starts _ _ _ c.requires.zeros, refl, omega arith)
+loop-i-init c = (by-starts _ _ _ c.requires.zeros, refl)
 
 pub overflow_mul-shift : goal.overflow_mul-shift
 overflow_mul-shift c =
@@ -29,7 +29,7 @@ loop-i-preserved c =
     let i = c.loop-i.i in
     let a = c.args in
     let r = tail-raised i a.windows (i * a.w) a.offsets _ _ _ _ (rw c.clip.ensures at c.raise_run.ensures) c.raise_runs.ensures in
-    (by_next _ _ i _ _ c.loop-i.invariant.0 r, r.long ∙ c.loop-i.invariant.1, omega (arith, c.loop-i-test.true))
+    (by_next _ _ i _ _ c.loop-i.invariant.0 r, r.long ∙ c.loop-i.invariant.1)
 
 pub returns : goal.returns
 returns c =

@@ -6,8 +6,8 @@ use Rattle.check_few.proofs.keep_entry.Goals as goal
 
 pub returns-then-p-k : goal.returns-then-p-k
 returns-then-p-k c =
-    keeps-put c.lesser-held.ensures c.lesser-top.ensures c.requires.1 c.requires.2 (search rules) c.place_of-p.ensures c.insert_entry.ensures.0 c.insert_entry.ensures.1
+    keeps-put c.min-held.ensures c.min-top.ensures c.requires.1 c.requires.2 (search rules) c.place_of-p.ensures c.insert_entry.ensures.0 c.insert_entry.ensures.1
 
 pub returns-else-p-k : goal.returns-else-p-k
 returns-else-p-k c =
-    keeps-none c.lesser-held.ensures c.requires.1 c.requires.2 c.if-p-k.false c.place_of-p.ensures
+    keeps-none c.min-held.ensures c.requires.1 c.requires.2 c.if-p-k.false c.place_of-p.ensures

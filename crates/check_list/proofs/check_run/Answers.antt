@@ -38,3 +38,7 @@ loop-j-preserved c =
 
 pub returns : goal.returns
 returns c = run_ends c.loop-j-test.false c.loop-j.invariant.2
+
+-- at the last offset
+pub returns-2 : goal.returns-2
+returns-2 c = run_ends (omega arith) (run-next c.loop-j-test.true c.loop-j.invariant.2 c.match_at-tested.ensures c.note_match-n.ensures c.slide_sums-t.ensures)

@@ -6,8 +6,5 @@ use Rattle.check_list.proofs.put_entry.Goals as goal
 pub returns-then-k-distances : goal.returns-then-k-distances
 returns-then-k-distances c = notes-put c.args.k c.args.j _ _ _ c.if-k-offsets.true c.if-k-distances.true
 
-pub returns-else-k-distances : goal.returns-else-k-distances
-returns-else-k-distances c = notes-full c.args.k c.args.j _ _ _ (omega (arith, c.if-k-distances.false))
-
 pub returns-else-k-offsets : goal.returns-else-k-offsets
-returns-else-k-offsets c = notes-full c.args.k c.args.j _ _ _ (omega (arith, c.if-k-offsets.false))
+returns-else-k-offsets c = notes-full c.args.k c.args.j _ _ _ (omega arith)

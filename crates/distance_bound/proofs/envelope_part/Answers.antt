@@ -11,4 +11,4 @@ small : (c : goal.After-excess_at-sum) → c.excess_at-sum.result ≤ 400000000
 small c = rw c.excess_at-sum.ensures (excess-sq-le (c.requires.all_in.1.at _) (c.requires.all_in.2.at _) (c.requires.all_in.0.at _))
 
 pub loop-k-preserved : goal.loop-k-preserved
-loop-k-preserved c = rw Σℕ-more (omega arith, omega (arith, small c), omega (arith, c.excess_at-sum.ensures))
+loop-k-preserved c = rw Σℕ-more (omega (arith, small c), omega (arith, c.excess_at-sum.ensures))

@@ -1,11 +1,12 @@
 -- `outside`: the greater of the two differences, and 0 where it is negative.
-use lib.Signed.{lt_z}
 use mir.Val.{SFits}
-use Rattle.meaning_numbers.proofs.Prelude.{◌≡◌, ◌≤◌, ℤ, true, false, ◌-ℤ◌, w32, to_z, of_z, to_z-of_z, z-abs, zmach32, up, dn, z-sub}
+use Rattle.std.specs.Int.{int_max}
+use Rattle.meaning_numbers.proofs.Order.{maxℤ-one}
+use Rattle.meaning_numbers.proofs.Prelude.{◌≡◌, ◌⊎◌, ⊎_elim, ℤ, pos, ◌-ℤ◌, ◌≤ℤ◌, max, nat_abs, w32, to_z, of_z, to_z-of_z, z-abs, zarith, zmach32, up, z-sub}
 use Rattle.meaning_curves.proofs.Values.{InLimits}
-use Rattle.meaning_filter.proofs.{Apart.up_is, Apart.excess_small, Bound.excess}
+use Rattle.meaning_filter.proofs.{Apart.up_is}
+use Rattle.numbers.proofs.Order.{max-same}
 use Rattle.distance_bound.proofs.outside.Goals as goal
-use Rattle.distance_bound.proofs.outside.Goals.{then-a-b, else-a-b}
 
 -- a difference of two values, as the machine reads it
 read : {x y : ℤ} → InLimits x → InLimits y → to_z w32 (of_z w32 (to_z w32 (of_z w32 x) -ℤ to_z w32 (of_z w32 y))) ≡ x -ℤ y
@@ -15,45 +16,22 @@ read {x} {y} h k =
     let e : SFits w32 (x -ℤ y) = omega (zmach32, z-sub x y, h.low, h.high, k.low, k.high) in
     rw (to_z-of_z w32 x f, to_z-of_z w32 y g) (to_z-of_z w32 _ e)
 
--- the greater of the two differences
-abbrev Greater : (l h v d : ℤ) → Type 0
-Greater l h v d = (up d ≡ excess l h v) × (dn d ≤ 20000)
+either : {d : ℤ} (a b : ℤ) → d ≡ int_max a b → (d ≡ b) ⊎ (d ≡ a)
+either a b e = rw (e, max-same a b) (maxℤ-one a b)
 
-module _ {l h v a b d : ℤ} (in_l : InLimits l) (in_h : InLimits h) (in_v : InLimits v) (a-is : a ≡ v -ℤ h) (b-is : b ≡ l -ℤ v) where
-  second : lt_z a b ≡ true → d ≡ b → Greater l h v d
-  second t e = omega (zmach32, z-sub v h, z-sub l v, up_is (v -ℤ h), up_is (l -ℤ v), up_is d, in_l.low, in_l.high, in_h.low, in_h.high, in_v.low, in_v.high)
+-- the size of r, the greatest of a, b and 0
+size : (a b d r : ℤ) → a ≤ℤ d → b ≤ℤ d → (d ≡ b) ⊎ (d ≡ a) → d ≤ℤ r → pos 0 ≤ℤ r → (r ≡ pos 0) ⊎ (r ≡ d) → nat_abs r ≡ max (up a) (up b)
+size a b d r h k one u z two =
+    let none : r ≡ pos 0 → nat_abs r ≡ max (up a) (up b) = λ e. omega (zarith, z-abs r, up_is a, up_is b) in
+    ⊎_elim none
+    (λ e. ⊎_elim (λ f. omega (zarith, z-abs r, up_is a, up_is b)) (λ f. omega (zarith, z-abs r, up_is a, up_is b)) one)
+    two
 
-  first : lt_z a b ≡ false → d ≡ a → Greater l h v d
-  first t e = omega (zmach32, z-sub v h, z-sub l v, up_is (v -ℤ h), up_is (l -ℤ v), up_is d, in_l.low, in_l.high, in_h.low, in_h.high, in_v.low, in_v.high)
-
-below : (c : goal.Then-d-lt0) → Greater c.args.low c.args.high c.args.x c.if-a-b.d
-below c =
-    let l = c.requires.in_limits in
-    let h = c.requires.in_limits_2 in
-    let v = c.requires.in_limits_3 in
-    elim c.if-a-b.branch [
-      | then-a-b w ↦ rw (c.if-a-b.d-is) at (second l h v (read v h) (read l v) w.if-a-b.true w.d-is)
-      | else-a-b w ↦ rw (c.if-a-b.d-is) at (first l h v (read v h) (read l v) w.if-a-b.false w.d-is)
-    ]
-
-above : (c : goal.Else-d-lt0) → Greater c.args.low c.args.high c.args.x c.if-a-b.d
-above c =
-    let l = c.requires.in_limits in
-    let h = c.requires.in_limits_2 in
-    let v = c.requires.in_limits_3 in
-    elim c.if-a-b.branch [
-      | then-a-b w ↦ rw (c.if-a-b.d-is) at (second l h v (read v h) (read l v) w.if-a-b.true w.d-is)
-      | else-a-b w ↦ rw (c.if-a-b.d-is) at (first l h v (read v h) (read l v) w.if-a-b.false w.d-is)
-    ]
-
-small : (c : goal.Else-d-lt0) → excess c.args.low c.args.high c.args.x ≤ 20000
-small c = excess_small c.requires.in_limits c.requires.in_limits_2 c.requires.in_limits_3
-
-pub overflow_cast-result : goal.overflow_cast-result
-overflow_cast-result c = rw (c.if-a-b.d-is) (omega (zmach32, above c, small c, z-abs c.if-a-b.d, up_is c.if-a-b.d))
-
-pub returns-then-d-lt0 : goal.returns-then-d-lt0
-returns-then-d-lt0 c = omega (zmach32, below c, up_is c.if-a-b.d)
-
-pub returns-else-d-lt0 : goal.returns-else-d-lt0
-returns-else-d-lt0 c = rw (c.if-a-b.d-is) (omega (zmach32, above c, z-abs c.if-a-b.d, up_is c.if-a-b.d))
+pub returns : goal.returns
+returns c =
+    let D = to_z-of_z w32 c.max-d.result (record { sfits = c.max-d.type_inv }) in
+    let R = to_z-of_z w32 c.max.result (record { sfits = c.max.type_inv }) in
+    let p = c.max-d.ensures in
+    let q = c.max.ensures in
+    let s = size _ _ _ _ p.self_bound p.other_bound (either _ _ p.value) (rw D at q.self_bound) q.other_bound (either _ _ (rw D at q.value)) in
+    rw R (rw (read c.requires.in_limits_3 c.requires.in_limits_2, read c.requires.in_limits c.requires.in_limits_3) at s)

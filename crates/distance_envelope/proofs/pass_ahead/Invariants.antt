@@ -1,11 +1,7 @@
 -- `pass_ahead`. The invariant: the pass is made as far as place i (`AheadTo`).
-use Rattle.meaning_numbers.proofs.Prelude.{◌≡◌, ◌-◌, ◌≤◌, length}
 use Rattle.distance_envelope.proofs as own
 use own.Pass.{AheadTo}
 use Rattle.distance_envelope.proofs.pass_ahead.Given as goal
 
 abbrev pub invariant-loop-i : goal.invariant-loop-i
-invariant-loop-i l = (l.i ≤ l.end) × (l.m ≡ length l.initial.out) × (length l.out ≡ l.m) × AheadTo l.low l.d l.i l.initial.out l.out
-
-abbrev pub decreases-loop-i : goal.decreases-loop-i
-decreases-loop-i l = l.end - l.i
+invariant-loop-i l = AheadTo l.low l.d l.i l.initial.out l.out

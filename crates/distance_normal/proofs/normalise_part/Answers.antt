@@ -37,12 +37,9 @@ pub loop-k-preserved : goal.loop-k-preserved
 loop-k-preserved c =
     let out = c.loop-k.out in
     let j = c.args.p + c.loop-k.k in
-    let v = c.loop-k.invariant.1 in
-    let room : j < length out = omega (arith, v.long) in (
-      omega arith,
-      record {
-        long = simp length-set v.long;
-        kept = λ k h. get_or-set_other out j k _ (pos 0) (λ e. omega arith) ∙ v.kept k h;
-        made = below_more _ _ (λ k h. get_or-set_other out j _ _ (pos 0) (λ e. omega arith) ∙ v.made k h) (get_or-set_same out j _ (pos 0) room ∙ stored c);
-      },
-    )
+    let v = c.loop-k.invariant in
+    let room : j < length out = omega (arith, v.long) in record {
+      long = simp length-set v.long;
+      kept = λ k h. get_or-set_other out j k _ (pos 0) (λ e. omega arith) ∙ v.kept k h;
+      made = below_more _ _ (λ k h. get_or-set_other out j _ _ (pos 0) (λ e. omega arith) ∙ v.made k h) (get_or-set_same out j _ (pos 0) room ∙ stored c);
+    }

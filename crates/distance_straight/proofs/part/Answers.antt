@@ -20,4 +20,4 @@ module _ (c : goal.After-squared-sum) where
   small = rw told (cost-le (c.requires.all_in.at _) (c.requires.all_in_2.at _))
 
 pub loop-k-preserved : goal.loop-k-preserved
-loop-k-preserved c = rw Σℕ-more (omega arith, omega (arith, small c), omega (arith, told c))
+loop-k-preserved c = rw Σℕ-more (omega (arith, small c), omega (arith, told c))

@@ -1,4 +1,4 @@
-use Rattle.meaning_numbers.proofs.Prelude.{◌≡◌, refl, ◌∙◌, sym, ℕ, ◌+◌, ◌≤◌, arith, length-set, ℤ}
+use Rattle.meaning_numbers.proofs.Prelude.{◌≡◌, ◌∙◌, sym, ℕ, ◌+◌, ◌≤◌, arith, ℤ}
 use Rattle.meaning_curves.specs.{Curve.at, Curve.stretch, Straight.cost}
 use Rattle.meaning_curves.proofs.Values.{cost-le}
 use Rattle.numbers.proofs.Back.{cost-back}
@@ -9,7 +9,7 @@ use Rattle.distance_warped.proofs.first_row.Goals as goal
 
 pub loop-j-init : goal.loop-j-init
 loop-j-init c =
-    (omega arith, refl, omega arith, first-start (stretch c.args.s.now c.args.from) (at c.args.q.now) _ _ _ c.fill_row.ensures, sym (before-none 0 _), omega arith)
+    (first-start (stretch c.args.s.now c.args.from) (at c.args.q.now) _ _ _ c.fill_row.ensures, sym (before-none 0 _), omega arith)
 
 -- a turn
 module _ (l : goal.After-squared-left) where
@@ -35,14 +35,11 @@ loop-j-preserved c =
     let f = cells (S c) (Q c) c.args.b 0 in
     let j = c.loop-j.j in
     let v = c.loop-j.invariant in
-    let new : c.loop-j.left + c.squared-left.result ≡ f j = omega (arith, told c, v.4, first_cell (S c) (Q c) c.args.b (small c) j (record { first = omega arith; second = omega arith })) in (
-      omega arith,
-      length-set c.loop-j.row (j + 1) _ ∙ v.1,
-      simp length-set v.2,
-      halfway-more _ v.3 (omega arith) new,
+    let new : c.loop-j.left + c.squared-left.result ≡ f j = omega (arith, told c, v.1, first_cell (S c) (Q c) c.args.b (small c) j (record { first = omega arith; second = omega arith })) in (
+      halfway-more _ v.0 (omega arith) new,
       new ∙ sym (before_more 0 f j),
       omega (arith, told c, small c 0 j),
     )
 
 pub returns : goal.returns
-returns c = first-end (stretch c.args.s.now c.args.from) (at c.args.q.now) _ _ _ _ (omega arith) c.loop-j.invariant.3
+returns c = first-end (stretch c.args.s.now c.args.from) (at c.args.q.now) _ _ _ _ (omega arith) c.loop-j.invariant.0

@@ -1,6 +1,6 @@
 use Rattle.meaning_numbers.specs.Sum.{Σℕ}
 use Rattle.meaning_numbers.proofs.Sum.{Σℕ-none, Σℕ-more, Σℕ-fewer}
-use Rattle.meaning_numbers.proofs.Prelude.{◌≡◌, refl, ◌∙◌, List, ℕ, ◌+◌, ◌-◌, ◌^◌, ◌≤◌, ◌<◌, arith, length, ℤ}
+use Rattle.meaning_numbers.proofs.Prelude.{◌≡◌, ◌∙◌, List, ℕ, ◌+◌, ◌-◌, ◌^◌, ◌≤◌, ◌<◌, arith, length, ℤ}
 use Rattle.meaning_curves.specs.{Curve.at, Curve.stretch, Limits.longest_query, Table.warped}
 use Rattle.meaning_curves.proofs.Values.{AllIn, cost-le}
 use Rattle.meaning_filter.proofs.Bound.{apart}
@@ -55,7 +55,7 @@ pub loop-i-init : goal.loop-i-init
 loop-i-init c =
     let f = first-is _ c.requires.q_nonzero.0 c.requires.bound_value c.excess_at.ensures in
     let g = first-le _ c.requires.q_nonzero.0 c.requires.bound_value c.excess_at.ensures in
-    (omega arith, refl, omega arith, c.first_row.ensures, omega (arith, f, g))
+    (c.first_row.ensures, omega (arith, f, g))
 
 pub excess_at-rest-requires : goal.excess_at-rest-requires
 excess_at-rest-requires c = record {
@@ -66,33 +66,33 @@ excess_at-rest-requires c = record {
 }
 
 pub overflow_sub-rest-in-loop-i : goal.overflow_sub-rest-in-loop-i
-overflow_sub-rest-in-loop-i c = enough _ _ _ c.loop-i.invariant.4 c.requires.bound_value (omega arith) c.excess_at-rest.ensures
+overflow_sub-rest-in-loop-i c = enough _ _ _ c.loop-i.invariant.1 c.requires.bound_value (omega arith) c.excess_at-rest.ensures
 
 pub overflow_add-least : goal.overflow_add-least
 overflow_add-least c =
     let r = c.requires in
-    let f = fits _ _ _ r.all_in.0 r.all_in.1 r.envelopes r.q_nonzero.1 c.loop-i.invariant.4 r.bound_value (omega arith) c.excess_at-rest.ensures c.next_row-least.ensures.least_of in
+    let f = fits _ _ _ r.all_in.0 r.all_in.1 r.envelopes r.q_nonzero.1 c.loop-i.invariant.1 r.bound_value (omega arith) c.excess_at-rest.ensures c.next_row-least.ensures.least_of in
     omega (arith, f)
 
 pub overflow_add-result : goal.overflow_add-result
 overflow_add-result c =
     let r = c.requires in
-    let f = fits _ _ _ r.all_in.0 r.all_in.1 r.envelopes r.q_nonzero.1 c.loop-i.invariant.4 r.bound_value (omega arith) c.excess_at-rest.ensures c.next_row-least.ensures.least_of in
+    let f = fits _ _ _ r.all_in.0 r.all_in.1 r.envelopes r.q_nonzero.1 c.loop-i.invariant.1 r.bound_value (omega arith) c.excess_at-rest.ensures c.next_row-least.ensures.least_of in
     omega (arith, f)
 
 pub returns-then-limit-least : goal.returns-then-limit-least
 returns-then-limit-least c =
     let r = c.requires in
-    left-early (under _ _ _ r.all_in.0 r.all_in.1 r.envelopes r.q_nonzero.1 c.loop-i.invariant.4 r.bound_value (omega arith) c.excess_at-rest.ensures c.next_row-least.ensures.least_of) c.if-limit-least.true
+    left-early (under _ _ _ r.all_in.0 r.all_in.1 r.envelopes r.q_nonzero.1 c.loop-i.invariant.1 r.bound_value (omega arith) c.excess_at-rest.ensures c.next_row-least.ensures.least_of) c.if-limit-least.true
 
 pub loop-i-preserved : goal.loop-i-preserved
 loop-i-preserved c =
     let v = c.loop-i.invariant in
     let n = c.next_row-least in
-    (omega arith, omega arith, omega arith, n.ensures.row_is_2, left _ _ _ v.4 c.requires.bound_value (omega arith) c.excess_at-rest.ensures)
+    (n.ensures.row_is_2, left _ _ _ v.1 c.requires.bound_value (omega arith) c.excess_at-rest.ensures)
 
 pub returns : goal.returns
 returns c =
     let m = length c.args.q.now in
     let e : c.loop-i.i ≡ m - 1 = omega arith in
-    whole ((rw e at c.loop-i.invariant.3).at m (omega arith) ∙ last-cell _ _ _ m (omega arith))
+    whole ((rw e at c.loop-i.invariant.0).at m (omega arith) ∙ last-cell _ _ _ m (omega arith))

@@ -21,7 +21,7 @@ row_at-r-requires c =
     let a = c.args in
     let old = index_buffers a.rows.now a.left.now a.right.now in
     let made = made_so a.series.now a.head a.from.now a.lefts.now a.rights.now old c.lift_of-l.ensures c.extend_passes-n.ensures in
-    rw c.place_before-k.ensures (last-in a.series.now a.head a.from.now a.lefts.now a.rights.now old c.requires made.0 made.1)
+    rw c.saturating_sub.ensures (last-in a.series.now a.head a.from.now a.lefts.now a.rights.now old c.requires made.0 made.1)
 
 pub answer-requires : goal.answer-requires
 answer-requires c =
@@ -34,4 +34,4 @@ returns c =
     let old = index_buffers a.rows.now a.left.now a.right.now in
     let made = made_so a.series.now a.head a.from.now a.lefts.now a.rights.now old c.lift_of-l.ensures c.extend_passes-n.ensures in
     rw c.answer.ensures
-    (extended-kept a.series.now a.head a.from.now a.lefts.now a.rights.now old c.requires made.0 made.1 (c.row_at-r.ensures ∙ ap (λ (x : ℕ). get_or c.extend_passes-n.new.rows x zero_row) c.place_before-k.ensures))
+    (extended-kept a.series.now a.head a.from.now a.lefts.now a.rights.now old c.requires made.0 made.1 (c.row_at-r.ensures ∙ ap (λ (x : ℕ). get_or c.extend_passes-n.new.rows x zero_row) c.saturating_sub.ensures))

@@ -10,12 +10,12 @@ use Rattle.extend_count.proofs as own
 use own.Count.{row_new, counted-starts, fresh-old, next-run, counted-turn}
 use Rattle.extend_count.proofs.count_new.Goals as goal
 
-pub loop-j-init : goal.loop-j-init
-loop-j-init c =
+pub loop-at-init : goal.loop-at-init
+loop-at-init c =
     let a = c.args in (
       omega arith,
       c.requires.some_left,
-      c.level_at-n.ensures,
+      c.level_at.ensures,
       fresh-old _ a.w a.e _ _ _ c.requires.has-row,
       counted-starts _ a.w a.e _ _ _ _,
     )
@@ -34,33 +34,33 @@ module _ {s : List ℤ} {w e old : ℕ} {ups : List ℕ} {count : ℕ} {before :
 
 pub overflow_add-counts : goal.overflow_add-counts
 overflow_add-counts c =
-    let v = c.loop-j.invariant in
-    omega (arith, few c.requires v.0 c.loop-j-test.true (v.2 c.loop-j-test.true) c.find_above-i.ensures v.4)
+    let v = c.loop-at.invariant in
+    omega (arith, few c.requires v.0 c.loop-at-test.true (v.2 c.loop-at-test.true) c.find_above-i.ensures v.4)
 
-module _ (c : goal.After-next_out-next) where
-  is-row : c.find_above-i.result ≡ row_from c.args.s.now c.args.w c.args.e c.args.old c.args.ups.now c.args.count c.loop-j.j
-  is-row = let v = c.loop-j.invariant in found-row c.requires v.0 c.loop-j-test.true (v.2 c.loop-j-test.true) c.find_above-i.ensures
+module _ (c : goal.After-next_out-at) where
+  is-row : c.find_above-i.result ≡ row_from c.args.s.now c.args.w c.args.e c.args.old c.args.ups.now c.args.count c.loop-at.at.offset
+  is-row = let v = c.loop-at.invariant in found-row c.requires v.0 c.loop-at-test.true (v.2 c.loop-at-test.true) c.find_above-i.ensures
 
   -- the run that begins at the window
-  run : RowRun (row_from c.args.s.now c.args.w c.args.e c.args.old c.args.ups.now c.args.count) (windows_of c.args.s.now c.args.w) c.loop-j.j c.next_out-next.result.offset
+  run : RowRun (row_from c.args.s.now c.args.w c.args.e c.args.old c.args.ups.now c.args.count) (windows_of c.args.s.now c.args.w) c.loop-at.at.offset c.next_out-at.result.offset
   run =
       let a = c.args in
-      next-run _ a.w a.e _ _ _ c.requires.has-row c.requires.climbing {z = c.next_out-next.result.level} c.loop-j.invariant.0 c.loop-j-test.true
-      (rw (← (c.start_of-low.ensures ∙ ap (start_of _) is-row), ← (ap (λ k. get_or a.ups.now k 0) is-row)) c.next_out-next.ensures)
+      next-run _ a.w a.e _ _ _ c.requires.has-row c.requires.climbing {z = c.next_out-at.result.level} c.loop-at.invariant.0 c.loop-at-test.true
+      (rw (← (c.start_of-low.ensures ∙ ap (start_of _) is-row), ← (ap (λ k. get_or a.ups.now k 0) is-row)) c.next_out-at.ensures)
 
-pub loop-j-smaller : goal.loop-j-smaller
-loop-j-smaller c = omega (arith, (run c).ahead, (run c).below)
+pub loop-at-smaller : goal.loop-at-smaller
+loop-at-smaller c = omega (arith, (run c).ahead, (run c).below)
 
-pub loop-j-preserved : goal.loop-j-preserved
-loop-j-preserved c =
+pub loop-at-preserved : goal.loop-at-preserved
+loop-at-preserved c =
     let a = c.args in
-    let v = c.loop-j.invariant in
+    let v = c.loop-at.invariant in
     let h = run c in
-    let i_count = below c.requires v.0 c.loop-j-test.true (v.2 c.loop-j-test.true) c.find_above-i.ensures in
+    let i_count = below c.requires v.0 c.loop-at-test.true (v.2 c.loop-at-test.true) c.find_above-i.ensures in
     let turn = counted-turn _ a.w a.e _ _ _ h v.3 (subst (λ k. k < a.count) (is-row c) i_count) (omega arith) v.4 in (
       omega arith,
       h.below,
-      λ _. c.next_out-next.ensures.sum,
+      λ _. c.next_out-at.ensures.sum,
       fresh-next _ _ _ _ h,
       rw (is-row c) turn,
     )

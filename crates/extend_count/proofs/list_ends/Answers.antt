@@ -5,7 +5,7 @@ use Rattle.extend_count.proofs.Listed.{listed-none, listed_more}
 use Rattle.extend_count.proofs.list_ends.Goals as goal
 
 pub loop-i-init : goal.loop-i-init
-loop-i-init c = (omega arith, sym (listed-none _ _), sym (listed-none _ _))
+loop-i-init c = (sym (listed-none _ _), sym (listed-none _ _))
 
 pub raised_end-requires : goal.raised_end-requires
 raised_end-requires c =
@@ -16,15 +16,14 @@ pub loop-i-preserved : goal.loop-i-preserved
 loop-i-preserved c =
     let a = c.args in
     let back : to_z w32 (of_z w32 c.row_at-r.result.up) ≡ c.row_at-r.result.up = to_z-of_z w32 _ (record { sfits = search rules }) in (
-      omega arith,
-      rw (c.loop-i.invariant.1, c.raised_end.ensures, back, c.row_at-r.ensures) (sym (listed_more (end_of a.rows.now a.bias) c.loop-i.i a.ups.now)),
-      rw (c.loop-i.invariant.2, c.row_at-r.ensures) (sym (listed_more (size_of a.rows.now) c.loop-i.i a.counts.now)),
+      rw (c.loop-i.invariant.0, c.raised_end.ensures, back, c.row_at-r.ensures) (sym (listed_more (end_of a.rows.now a.bias) c.loop-i.i a.ups.now)),
+      rw (c.loop-i.invariant.1, c.row_at-r.ensures) (sym (listed_more (size_of a.rows.now) c.loop-i.i a.counts.now)),
     )
 
 pub returns : goal.returns
 returns c =
     let a = c.args in
     let e : c.loop-i.i ≡ a.count = omega arith in (
-      c.loop-i.invariant.1 ∙ ap (λ (j : ℕ). listed (end_of a.rows.now a.bias) j a.ups.now) e,
-      c.loop-i.invariant.2 ∙ ap (λ (j : ℕ). listed (size_of a.rows.now) j a.counts.now) e,
+      c.loop-i.invariant.0 ∙ ap (λ (j : ℕ). listed (end_of a.rows.now a.bias) j a.ups.now) e,
+      c.loop-i.invariant.1 ∙ ap (λ (j : ℕ). listed (size_of a.rows.now) j a.counts.now) e,
     )

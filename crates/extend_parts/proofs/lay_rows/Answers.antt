@@ -5,12 +5,12 @@ use Rattle.extend_parts.proofs.Lay.{laid_none, laid_more}
 use Rattle.extend_parts.proofs.lay_rows.Goals as goal
 
 pub loop-i-init : goal.loop-i-init
-loop-i-init c = (omega arith, sym (laid_none _ _))
+loop-i-init c = sym (laid_none _ _)
 
 pub loop-i-preserved : goal.loop-i-preserved
-loop-i-preserved c = (omega arith, rw (c.with_part.ensures, c.loop-i.invariant.1) (sym (laid_more c.args.ends.now c.loop-i.i c.args.rows.now)))
+loop-i-preserved c = rw (c.with_part.ensures, c.loop-i.invariant) (sym (laid_more c.args.ends.now c.loop-i.i c.args.rows.now))
 
 pub returns : goal.returns
 returns c =
     let e : c.loop-i.i ≡ c.args.count = omega arith in
-    c.loop-i.invariant.1 ∙ ap (λ (j : ℕ). laid_to c.args.ends.now j c.args.rows.now) e
+    c.loop-i.invariant ∙ ap (λ (j : ℕ). laid_to c.args.ends.now j c.args.rows.now) e

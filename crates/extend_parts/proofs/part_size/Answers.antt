@@ -1,20 +1,17 @@
 -- `part_size`: its test is that of the definition.
-use Rattle.meaning_numbers.proofs.Prelude.{◌≡◌, sym, ◌∙◌, ℤ, le_z, SFits, w32, to_z, of_z, to_z-of_z}
+use Rattle.meaning_numbers.proofs.Prelude.{rules, sym, ◌∙◌}
 use Rattle.extend_parts.specs.Copy.{part_size}
+use Rattle.extend_weave.proofs.Tests.{le-back}
 use Rattle.extend_parts.proofs.part_size.Goals as goal
-
--- the test on the machine's numbers is the test
-back : (x y : ℤ) → SFits w32 x → SFits w32 y → le_z (to_z w32 (of_z w32 x)) (to_z w32 (of_z w32 y)) ≡ le_z x y
-back x y f g = rw (to_z-of_z w32 x f, to_z-of_z w32 y g)
 
 pub returns-then-least-low : goal.returns-then-least-low
 unfolding part_size
 returns-then-least-low c =
     let a = c.args in
-    rw (sym (back a.o.low a.r.low (record { sfits = c.struct_told-1.given.0.1 }) (record { sfits = c.struct_told-2-1.given.0.1 })) ∙ c.if-least-low.true)
+    rw (sym (le-back a.o.low a.r.low (record { sfits = search rules }) (record { sfits = search rules })) ∙ c.if-least-low.true)
 
 pub returns-else-least-low : goal.returns-else-least-low
 unfolding part_size
 returns-else-least-low c =
     let a = c.args in
-    rw (sym (back a.o.low a.r.low (record { sfits = c.struct_told-1.given.0.1 }) (record { sfits = c.struct_told-2-1.given.0.1 })) ∙ c.if-least-low.false)
+    rw (sym (le-back a.o.low a.r.low (record { sfits = search rules }) (record { sfits = search rules })) ∙ c.if-least-low.false)

@@ -1,11 +1,8 @@
 -- `chosen`: its test is that of the definition, and no end wraps.
-use Rattle.meaning_numbers.proofs.Prelude.{rules, ◌≡◌, sym, ◌∙◌, arith, ℕ, ℤ, pos, ◌+ℤ◌, lt_z, w32, to_z, of_z, SFits, to_z-of_z, to_z_pos, z-add, z-sub, zmach32}
+use Rattle.meaning_numbers.proofs.Prelude.{rules, ◌≡◌, sym, ◌∙◌, arith, ℕ, ℤ, pos, ◌+ℤ◌, w32, to_z, of_z, SFits, to_z-of_z, to_z_pos, z-add, z-sub, zmach32}
 use Rattle.extend_weave.specs.Turn.{chosen_of, Cell}
+use Rattle.extend_weave.proofs.Tests.{lt-back}
 use Rattle.extend_weave.proofs.chosen.Goals as goal
-
--- the test on the machine's numbers is the test
-back : (x y : ℤ) → SFits w32 x → SFits w32 y → lt_z (to_z w32 (of_z w32 x)) (to_z w32 (of_z w32 y)) ≡ lt_z x y
-back x y f g = rw (to_z-of_z w32 x f, to_z-of_z w32 y g)
 
 -- the upper end of a new range
 module _ {low : ℤ} {d : ℕ} (cell : Cell low d) where
@@ -23,8 +20,8 @@ unfolding chosen_of
 returns-then-low-least c =
     let e = to_z-of_z w32 _ c.ranges.low in
     let u = up c.requires c.ranges.low in
-    rw (sym (back c.args.low c.args.r.low c.ranges.low (record { sfits = search rules })) ∙ c.if-low-least.true) (λ i. record { low = e i; up = u i; first = 0; runs = 0 })
+    rw (sym (lt-back c.args.low c.args.r.low c.ranges.low (record { sfits = search rules })) ∙ c.if-low-least.true) (λ i. record { low = e i; up = u i; first = 0; runs = 0 })
 
 pub returns-else-low-least : goal.returns-else-low-least
 unfolding chosen_of
-returns-else-low-least c = rw (sym (back c.args.low c.args.r.low c.ranges.low (record { sfits = search rules })) ∙ c.if-low-least.false)
+returns-else-low-least c = rw (sym (lt-back c.args.low c.args.r.low c.ranges.low (record { sfits = search rules })) ∙ c.if-low-least.false)

@@ -1,32 +1,26 @@
 -- `made_after`: its tests are those of the definition.
-use Rattle.meaning_numbers.proofs.Prelude.{sym, ◌∙◌, ◌≡◌, ℤ, le_z, lt_z, SFits, w32, to_z, of_z, to_z-of_z}
+use Rattle.meaning_numbers.proofs.Prelude.{rules, sym, ◌∙◌}
 use Rattle.extend_weave.specs.Turn.{made_after}
+use Rattle.extend_weave.proofs.Tests.{le-back, lt-back}
 use Rattle.extend_weave.proofs.made_after.Goals as goal
-
--- the tests on the machine's numbers are the tests
-module _ (x y : ℤ) (f : SFits w32 x) (g : SFits w32 y) where
-  least : le_z (to_z w32 (of_z w32 x)) (to_z w32 (of_z w32 y)) ≡ le_z x y
-  least = rw (to_z-of_z w32 x f, to_z-of_z w32 y g)
-
-  upper : lt_z (to_z w32 (of_z w32 x)) (to_z w32 (of_z w32 y)) ≡ lt_z x y
-  upper = rw (to_z-of_z w32 x f, to_z-of_z w32 y g)
+use Rattle.extend_weave.proofs.made_after.Goals.{else-least-low-via-then-least-low+else-low-up, else-least-low-via-else-least-low}
 
 pub returns-then-low-up : goal.returns-then-low-up
 unfolding made_after
 returns-then-low-up c =
+    let a = c.args in
     rw (
-      sym (least c.args.r.low c.args.low (record { sfits = c.struct_told-1.given.0.1 }) c.ranges.low) ∙ c.if-least-low.true,
-      sym (upper c.args.low c.args.r.up c.ranges.low (record { sfits = c.struct_told-1.given.1.0.1 })) ∙ c.if-low-up.true,
-    )
-
-pub returns-else-low-up : goal.returns-else-low-up
-unfolding made_after
-returns-else-low-up c =
-    rw (
-      sym (least c.args.r.low c.args.low (record { sfits = c.struct_told-1.given.0.1 }) c.ranges.low) ∙ c.if-least-low.true,
-      sym (upper c.args.low c.args.r.up c.ranges.low (record { sfits = c.struct_told-1.given.1.0.1 })) ∙ c.if-low-up.false,
+      sym (le-back a.r.low a.low (record { sfits = search rules }) c.ranges.low) ∙ c.if-least-low.true,
+      sym (lt-back a.low a.r.up c.ranges.low (record { sfits = search rules })) ∙ c.if-low-up.true,
     )
 
 pub returns-else-least-low : goal.returns-else-least-low
 unfolding made_after
-returns-else-least-low c = rw (sym (least c.args.r.low c.args.low (record { sfits = c.struct_told-1.given.0.1 }) c.ranges.low) ∙ c.if-least-low.false)
+returns-else-least-low c =
+    let a = c.args in
+    let l = le-back a.r.low a.low (record { sfits = search rules }) c.ranges.low in
+    let u = lt-back a.low a.r.up c.ranges.low (record { sfits = search rules }) in
+    elim c.else-least-low.branch [
+      | else-least-low-via-then-least-low+else-low-up w ↦ rw (sym l ∙ w.if-least-low.true, sym u ∙ w.if-low-up.false)
+      | else-least-low-via-else-least-low w ↦ rw (sym l ∙ w.if-least-low.false)
+    ]

@@ -1,13 +1,18 @@
--- `in_limits` meets its contract.
-use Rattle.meaning_numbers.proofs.Prelude.{sym, zmach32}
-use Rattle.meaning_curves.proofs.Values.{value-yes, value-no}
+-- `in_limits`, by its first test.
+use Rattle.meaning_numbers.specs.Order.{within}
+use Rattle.meaning_numbers.proofs.Prelude.{w32, to_z-of_z}
 use Rattle.numbers.proofs.in_limits.Goals as goal
 
-pub returns-then-x-lt-LEAST_VALUE : goal.returns-then-x-lt-LEAST_VALUE
-returns-then-x-lt-LEAST_VALUE c = sym (value-no _ (λ h. omega zmach32))
+pub returns-then-x-ge-LEAST_VALUE : goal.returns-then-x-ge-LEAST_VALUE
+unfolding within
+returns-then-x-ge-LEAST_VALUE c =
+    let same = to_z-of_z w32 c.args.x c.ranges.x in
+    let e = rw same at c.if-x-ge-LEAST_VALUE.true in
+    rw (same, e)
 
-pub returns-then-x-gt-GREATEST_VALUE : goal.returns-then-x-gt-GREATEST_VALUE
-returns-then-x-gt-GREATEST_VALUE c = sym (value-no _ (λ h. omega zmach32))
-
-pub returns : goal.returns
-returns c = sym (value-yes (omega zmach32))
+pub returns-else-x-ge-LEAST_VALUE : goal.returns-else-x-ge-LEAST_VALUE
+unfolding within
+returns-else-x-ge-LEAST_VALUE c =
+    let same = to_z-of_z w32 c.args.x c.ranges.x in
+    let e = rw same at c.if-x-ge-LEAST_VALUE.false in
+    rw (same, e)

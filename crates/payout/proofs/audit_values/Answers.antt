@@ -1,5 +1,6 @@
 -- `audit_values`: the limit on n first.
-use Rattle.meaning_numbers.proofs.Prelude.{sym, ◌∙◌, ◌≤◌, arith, length, length-take-le}
+use Rattle.std.specs.Prelude.{Err}
+use Rattle.meaning_numbers.proofs.Prelude.{sym, ap, ◌∙◌, ◌≤◌, arith, length, length-take-le}
 use Rattle.meaning_curves.specs.Limits.{most_program_values}
 use Rattle.meaning_rows.proofs.Judge.{between}
 use Rattle.meaning_entries.specs.Load.{text_index}
@@ -7,7 +8,7 @@ use Rattle.payout.proofs.Outcome.{counted-outside, counted-inside}
 use Rattle.payout.proofs.audit_values.Goals as goal
 
 pub returns-then-not-length_in : goal.returns-then-not-length_in
-returns-then-not-length_in c = counted-outside _ _ c.args.n (sym c.length_in.ensures ∙ c.if-not-length_in.true)
+returns-then-not-length_in c = ap (λ r. Err r) c.at.ensures ∙ counted-outside _ _ c.args.n (sym c.length_in.ensures ∙ c.if-not-length_in.true)
 
 pub slice_bounds-audit_series-end : goal.slice_bounds-audit_series-end
 slice_bounds-audit_series-end c =

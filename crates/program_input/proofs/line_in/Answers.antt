@@ -1,5 +1,5 @@
 -- `line_in` meets its contract.
-use Rattle.meaning_numbers.proofs.Prelude.{rules, arith}
+use Rattle.meaning_numbers.proofs.Prelude.{arith}
 use Rattle.program_input.proofs as own
 use own.InputLaws.{line-most}
 use Rattle.program_input.proofs.line_in.Goals as goal

@@ -4,4 +4,4 @@ use Rattle.rows_records.proofs.Chunk.{count-is, chunk-copied}
 use Rattle.rows_records.proofs.chunk_at.Goals as goal
 
 pub returns : goal.returns
-returns c = c.copy_rows.ensures ∙ chunk-copied _ _ _ (count-is _ _ c.count_from-n.ensures)
+returns c = rw c.zero_row-chunk.ensures at c.copy_rows.ensures ∙ chunk-copied _ _ _ (count-is _ _ c.count_from-n.ensures)

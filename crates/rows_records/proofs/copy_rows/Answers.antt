@@ -1,10 +1,10 @@
--- `copy_rows`: the invariant as it begins, after a turn, and at the end.
-use Rattle.std.proofs.Common.{sym, arith}
-use Rattle.rows_records.proofs.Chunk.{copied_none, copying-turn}
+-- `copy_rows`: what is there is copied at once.
+use Rattle.std.proofs.Common.{sym, ◌≡◌, arith}
+use Rattle.rows_records.proofs.Chunk.{copied-is, copied_none}
 use Rattle.rows_records.proofs.copy_rows.Goals as goal
 
-pub loop-i-init : goal.loop-i-init
-loop-i-init c = record { upto = omega arith; is = sym (copied_none _ _ _) }
+pub returns-then-n-gt0 : goal.returns-then-n-gt0
+returns-then-n-gt0 c = rw c.copy_from_slice.ensures.after (sym (copied-is _ _ c.args.n _ c.if-n-gt0.true c.requires.0 c.requires.1))
 
-pub loop-i-preserved : goal.loop-i-preserved
-loop-i-preserved c = copying-turn _ _ c.loop-i.invariant c.loop-i-test.true
+pub returns-else-n-gt0 : goal.returns-else-n-gt0
+returns-else-n-gt0 c = let e : c.args.n ≡ 0 = omega arith in rw e (sym (copied_none _ _ _))

@@ -1,6 +1,6 @@
 -- `at_most`: k + 2^32 - x is from 2^32 up to below twice that exactly if x is at most k.
 use Rattle.meaning_numbers.specs.Sum.{bit}
-use Rattle.meaning_numbers.proofs.Prelude.{rules, leb-true, leb-false, ◌≡◌, ℕ, ◌+◌, ◌-◌, ◌/◌, ◌<◌, arith, leb, by-test}
+use Rattle.meaning_numbers.proofs.Prelude.{leb-true, leb-false, ◌≡◌, ℕ, ◌+◌, ◌-◌, ◌/◌, ◌<◌, arith, leb, by-test}
 use Rattle.sums_count.proofs.at_most.Goals as goal
 
 told : (x k : ℕ) → x < 4294967296 → k < 4294967296 → (k + 4294967296 - x) / 4294967296 ≡ bit (leb x k)

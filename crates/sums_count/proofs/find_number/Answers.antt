@@ -1,6 +1,6 @@
-use Rattle.meaning_numbers.proofs.Prelude.{◌≡◌, ◌*◌, ◌/◌, ◌≤◌, arith}
+use Rattle.meaning_numbers.proofs.Prelude.{◌*◌, ◌/◌, ◌≤◌, arith}
 use Rattle.sums_count.proofs as own
-use own.Tally.{Sought, half-or-none, sought-half}
+use own.Tally.{half-or-none, sought-half}
 use Rattle.sums_count.proofs.find_number.Goals as goal
 
 -- what is added is at most a half

@@ -1,7 +1,6 @@
 -- `find_number`. The invariant: wherever the number stands, it is one of the places left (`sought-half`).
-use Rattle.meaning_numbers.proofs.Prelude.{◌≡◌, ◌*◌, ◌/◌, ◌≤◌, arith}
 use Rattle.sums_count.proofs as own
-use own.Tally.{Sought, half-or-none, sought-half}
+use own.Tally.{Sought}
 use Rattle.sums_count.proofs.find_number.Given as goal
 
 abbrev pub invariant-loop-size : goal.invariant-loop-size

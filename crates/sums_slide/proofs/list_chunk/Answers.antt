@@ -1,13 +1,12 @@
 -- `list_chunk`: the flags of all windows tell the numbers that are met (`lit-picked`).
-use Rattle.meaning_numbers.proofs.Prelude.{◌≡◌, sym, arith, length}
-use Rattle.clear.proofs.Clear.{cleared-zero}
-use Rattle.sums_slide.specs.{Levels.level, Levels.row_of, Levels.windows_of, Marks.met, Marks.lit, Picked.picked}
+use Rattle.meaning_numbers.proofs.Prelude.{◌≡◌, arith, length}
+use Rattle.clear.proofs.Cleared.{cleared-zero}
 use Rattle.sums_slide.proofs as own
 use own.Marks.{lit-picked}
 use Rattle.sums_slide.proofs.list_chunk.Goals as goal
 
 pub mark-requires-clause-by_index : goal.mark-requires-clause-by_index
-mark-requires-clause-by_index c = λ x b. cleared-zero _ c.clear_u8.ensures x
+mark-requires-clause-by_index c = λ x b. cleared-zero _ c.clear.ensures x
 
 pub collect-requires-clause-flags_in_bounds : goal.collect-requires-clause-flags_in_bounds
 collect-requires-clause-flags_in_bounds c =

@@ -1,5 +1,4 @@
-use Rattle.meaning_numbers.proofs.Prelude.{◌≡◌, refl, ◌∙◌, ◌+◌, ◌-◌, ◌≤◌, arith, div-le_self, length}
-use Rattle.sums_slide.specs.{Levels.level, Levels.row_of, Levels.windows_of, Marks.met, Picked.picked, Picked.Appended}
+use Rattle.meaning_numbers.proofs.Prelude.{refl, ◌∙◌, arith}
 use Rattle.sums_slide.proofs as own
 use own.Picked.{append-none}
 use own.Table.{chunk_next, chunk-room, table-start, table-end}

@@ -1,9 +1,6 @@
 -- `list_rows`. The invariant: the row numbers below the next chunk's first are listed.
-use Rattle.meaning_numbers.proofs.Prelude.{◌≡◌, refl, ◌∙◌, ◌+◌, ◌-◌, ◌≤◌, arith, div-le_self, length}
+use Rattle.meaning_numbers.proofs.Prelude.{◌≡◌, ◌+◌, ◌-◌, length}
 use Rattle.sums_slide.specs.{Levels.level, Levels.row_of, Levels.windows_of, Marks.met, Picked.picked, Picked.Appended}
-use Rattle.sums_slide.proofs as own
-use own.Picked.{append-none}
-use own.Table.{chunk_next, chunk-room, table-start, table-end}
 use Rattle.sums_slide.proofs.list_rows.Given as goal
 
 abbrev pub invariant-loop-base : goal.invariant-loop-base

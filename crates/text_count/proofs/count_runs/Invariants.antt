@@ -1,11 +1,7 @@
 -- `count_runs`. The invariant: the first i runs of the part are counted (`Runs`).
-use Rattle.meaning_numbers.proofs.Prelude.{◌-◌}
 use Rattle.text_count.proofs as own
 use own.Count.{Runs}
 use Rattle.text_count.proofs.count_runs.Given as goal
 
 abbrev pub invariant-loop-i : goal.invariant-loop-i
 invariant-loop-i l = Runs l.limit l.at l.first l.runs l.left l.right l.n l.to l.i
-
-abbrev pub decreases-loop-i : goal.decreases-loop-i
-decreases-loop-i l = l.n - l.i

@@ -9,39 +9,30 @@ small : (m k : ℕ) → k ≤ 7 → m < top k → m < 100000000000000000
 small m k h l = omega (arith, top-most k h, l)
 
 pub loop-k-init : goal.loop-k-init
-loop-k-init c = (omega arith, c.requires.0, λ p. still-here, λ p. still-here)
+loop-k-init c = (c.requires.0, λ p. still-here, λ p. still-here)
 
 pub overflow_mul-result : goal.overflow_mul-result
-overflow_mul-result c = omega (arith, small c.loop-k.m c.loop-k.k c.loop-k.invariant.0 c.loop-k.invariant.1)
+overflow_mul-result c = omega (arith, small c.loop-k.m c.loop-k.k (omega arith) c.loop-k.invariant.0)
 
 pub overflow_add-result : goal.overflow_add-result
-overflow_add-result c = omega (arith, small c.loop-k.m c.loop-k.k c.loop-k.invariant.0 c.loop-k.invariant.1)
+overflow_add-result c = omega (arith, small c.loop-k.m c.loop-k.k (omega arith) c.loop-k.invariant.0)
 
-pub returns-then-b-lt48 : goal.returns-then-b-lt48
-returns-then-b-lt48 c = digits-told _ _ _ _ _ c.loop-k.invariant.1 c.loop-k.invariant.0 c.loop-k.invariant.2 c.loop-k.invariant.3
-
-pub overflow_mul-result-then-b-gt57 : goal.overflow_mul-result-then-b-gt57
-overflow_mul-result-then-b-gt57 c = omega (arith, small c.loop-k.m c.loop-k.k c.loop-k.invariant.0 c.loop-k.invariant.1)
-
-pub overflow_add-result-then-b-gt57 : goal.overflow_add-result-then-b-gt57
-overflow_add-result-then-b-gt57 c = omega (arith, small c.loop-k.m c.loop-k.k c.loop-k.invariant.0 c.loop-k.invariant.1)
-
-pub returns-then-b-gt57 : goal.returns-then-b-gt57
-returns-then-b-gt57 c = digits-told _ _ _ _ _ c.loop-k.invariant.1 c.loop-k.invariant.0 c.loop-k.invariant.2 c.loop-k.invariant.3
+pub returns-then-not-is_ascii_digit : goal.returns-then-not-is_ascii_digit
+returns-then-not-is_ascii_digit c = digits-told _ _ _ _ _ c.loop-k.invariant.0 (omega arith) c.loop-k.invariant.1 c.loop-k.invariant.2
 
 pub overflow_mul-m : goal.overflow_mul-m
-overflow_mul-m c = omega (arith, small c.loop-k.m c.loop-k.k c.loop-k.invariant.0 c.loop-k.invariant.1)
+overflow_mul-m c = omega (arith, small c.loop-k.m c.loop-k.k (omega arith) c.loop-k.invariant.0)
 
 pub overflow_add-m : goal.overflow_add-m
-overflow_add-m c = omega (arith, small c.loop-k.m c.loop-k.k c.loop-k.invariant.0 c.loop-k.invariant.1, c.if-b-gt57.false)
+overflow_add-m c = omega (arith, small c.loop-k.m c.loop-k.k (omega arith) c.loop-k.invariant.0)
 
 pub loop-k-preserved : goal.loop-k-preserved
 loop-k-preserved c =
     let l = c.loop-k in
-    let h : c.args.at + l.k < length c.args.text.now = omega (arith, c.requires.1, c.loop-k-test.true) in
-    let s = small l.m l.k l.invariant.0 l.invariant.1 in (
-      omega (arith, c.loop-k-test.true),
-      omega (arith, top-more l.k, l.invariant.1, c.if-b-lt48.false, c.if-b-gt57.false),
-      λ p. more-here l.k (l.invariant.2 p) h (next-digit p l.m _ c.if-b-lt48.false c.if-b-gt57.false s),
-      λ p. more-here l.k (l.invariant.3 p) h (next-less p l.m _ c.if-b-lt48.false c.if-b-gt57.false s),
+    let d = rw c.if-not-is_ascii_digit.false at c.is_ascii_digit.ensures.cases in
+    let h : c.args.at + l.k < length c.args.text.now = omega (arith, c.requires.1) in
+    let s = small l.m l.k (omega arith) l.invariant.0 in (
+      omega (arith, top-more l.k, l.invariant.0),
+      λ p. more-here l.k (l.invariant.1 p) h (next-digit p l.m _ (omega arith) (omega arith) s),
+      λ p. more-here l.k (l.invariant.2 p) h (next-less p l.m _ (omega arith) (omega arith) s),
     )

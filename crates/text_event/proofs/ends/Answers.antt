@@ -2,6 +2,6 @@
 use Rattle.meaning_text.specs.Bytes.{bytes}
 use Rattle.text_event.proofs.ends.Goals as goal
 
-pub returns : goal.returns
+pub returns-then-roomy : goal.returns-then-roomy
 unfolding bytes
-returns c = c.stands.ensures.0
+returns-then-roomy c = c.stands.ensures.0

@@ -5,4 +5,4 @@ use own.Steps.{number-told}
 use Rattle.text_event.proofs.number_at.Goals as goal
 
 pub returns : goal.returns
-returns c h = number-told _ _ _ c.digits.result (omega arith) refl c.if-b-lt49.false c.if-b-gt57.false c.digits.ensures
+returns c h = number-told _ _ _ c.digits.result (omega arith) refl (omega arith) (omega arith) c.digits.ensures

@@ -4,10 +4,8 @@ use Rattle.text_event.proofs as own
 use own.Steps.{range-told}
 use Rattle.text_event.proofs.range_at.Goals as goal
 
-pub returns-in-Read-signed_at : goal.returns-in-Read-signed_at
-returns-in-Read-signed_at c =
-    let low = c.in-Read.low in
-    let high = c.in-Read-signed_at.up in
-    let y = rw c.in-Read-signed_at.is at c.signed_at-in-Read.ensures in
-    let e = to_z-of_z w64 low (search rules) in
-    rw (e, to_z-of_z w64 high (search rules)) (range-told _ _ low high _ _ (c.opens.ensures c.if-not-opens.false) (rw c.in-Read.is at c.signed_at.ensures) y)
+pub returns : goal.returns
+returns c =
+    let low = c.in_ok-low.low in
+    let high = c.in_ok-up.up in
+    rw (to_z-of_z w64 low (search rules), to_z-of_z w64 high (search rules)) (range-told _ _ low high _ _ (c.opens.ensures c.if-not-opens.false) c.in_ok-low.ensures c.in_ok-up.ensures)

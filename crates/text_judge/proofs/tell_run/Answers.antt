@@ -9,4 +9,4 @@ unfolding tell_tally
 returns c =
     let fits_low : SFits w32 c.args.t.row.low = search rules in
     let fits_up : SFits w32 c.args.t.row.up = search rules in
-    c.with_row.ensures ∙ rw (to_z-of_z w32 _ fits_up, to_z-of_z w32 _ fits_low, c.more_run-more.ensures, held-pos c.args.l (omega arith), held-pos c.args.r (omega arith)) refl
+    c.with_row.ensures ∙ rw (to_z-of_z w32 _ fits_up, to_z-of_z w32 _ fits_low, c.more_run-runs.ensures, held-pos c.args.l (omega arith), held-pos c.args.r (omega arith)) refl

@@ -1,11 +1,8 @@
--- `line_at`. The invariant: n is the line of place i, and at most i + 1. The measure is how far `at` is.
-use Prim.Native.Nat.{suc, ◌-◌, ◌≤◌}
+-- `line_at`. The invariant: n is the line of the place that the loop has come to, and at most one more than it.
+use Prim.Native.Nat.{suc, ◌≤◌}
 use mathlib.Core.Path.{◌≡◌}
 use Rattle.meaning_text.specs.{Read.line_of}
 use Rattle.text_reader.proofs.line_at.Given as goal
 
-abbrev pub invariant-loop-i : goal.invariant-loop-i
-invariant-loop-i l = (l.n ≡ line_of l.text l.i) × (l.i ≤ l.at) × (l.n ≤ suc l.i)
-
-abbrev pub decreases-loop-i : goal.decreases-loop-i
-decreases-loop-i l = l.at - l.i
+abbrev pub invariant-loop-b : goal.invariant-loop-b
+invariant-loop-b l = (l.n ≡ line_of l.text l.b-index) × (l.n ≤ suc l.b-index)

@@ -7,7 +7,7 @@ use Rattle.text_rows.proofs.Turn.{line-ready, line-none, line-more, stored-none,
 use Rattle.text_rows.proofs.fill_rows.Goals as goal
 
 pub loop-k-init : goal.loop-k-init
-loop-k-init c = record { inside = omega arith; read = c.no_line-p.ensures ∙ line-none _; records = sym (stored-none _ _) }
+loop-k-init c = record { read = c.no_line-p.ensures ∙ line-none _; records = sym (stored-none _ _) }
 
 pub next_line-p-requires : goal.next_line-p-requires
 next_line-p-requires c = rw c.loop-k.invariant.read (line-ready _ _)
@@ -16,7 +16,6 @@ pub loop-k-preserved : goal.loop-k-preserved
 loop-k-preserved c =
     let k = c.loop-k.invariant in
     record {
-      inside = omega arith;
       read = c.next_line-p.ensures ∙ rw k.read (line-more _ _);
       records = rw (c.line_row.ensures, c.next_line-p.ensures, k.read, k.records) (sym (stored_more _ _ _));
     }

@@ -2,17 +2,8 @@
 use mir.Val.{SFits}
 use Rattle.meaning_numbers.proofs.Prelude.{rules, ◌∙◌, w64, to_z-of_z, arith}
 use Rattle.text_event.proofs.EventLaws.{row_up, runs_up, run_up, value-up}
-use Rattle.text_rows.proofs.Turn.{going_start, line-run, line_row, line-runs, line-value, line-closed, line-refuse, line-stop}
+use Rattle.text_rows.proofs.Turn.{line-run, line_row, line-runs, line-value, line-closed, line-refuse, line-stop}
 use Rattle.text_rows.proofs.row_from.Goals as goal
-
-pub loop-low-init : goal.loop-low-init
-loop-low-init c = going_start _ _ _ _ c.requires.good c.requires.fits c.requires.inside
-
-pub next_event-requires : goal.next_event-requires
-next_event-requires c = c.loop-low.invariant.good
-
-pub tell_row-requires : goal.tell_row-requires
-tell_row-requires c = record { sound = c.loop-low.invariant.fits.sound; count_bound = omega (arith, c.loop-low.invariant.fits.runs, c.loop-low.invariant.inside) }
 
 pub tell_runs-w-requires : goal.tell_runs-w-requires
 tell_runs-w-requires c =
@@ -35,9 +26,6 @@ loop-low-preserved-in-Row c =
     let y = line_row _ _ _ _ c.loop-low.invariant low up _ _ _ c.in-Row.ensures (rw (to_z-of_z w64 low low_fits, to_z-of_z w64 up up_fits) at c.tell_row.ensures) in
     line-runs _ _ _ _ c.tell_runs-w.ensures y
 
-pub tell_run-requires : goal.tell_run-requires
-tell_run-requires c = record { sound = c.loop-low.invariant.fits.sound; count_bound = omega (arith, c.loop-low.invariant.fits.runs, c.loop-low.invariant.inside) }
-
 pub tell_runs-w-requires-in-Run : goal.tell_runs-w-requires-in-Run
 tell_runs-w-requires-in-Run c = let y = line-run _ _ _ _ c.loop-low.invariant _ _ _ c.in-Run.ensures c.tell_run.ensures in (y.fits, y.inside)
 
@@ -49,9 +37,6 @@ loop-low-preserved-in-Run c =
     let y = line-run _ _ _ _ c.loop-low.invariant _ _ _ c.in-Run.ensures c.tell_run.ensures in
     rw c.in-Run.ensures.0 (line-runs _ _ _ _ c.tell_runs-w-in-Run.ensures y)
 
-pub tell-tally-requires : goal.tell-tally-requires
-tell-tally-requires c = record { sound = c.loop-low.invariant.fits.sound; count_bound = omega (arith, c.loop-low.invariant.fits.runs, c.loop-low.invariant.inside) }
-
 pub loop-low-smaller : goal.loop-low-smaller
 loop-low-smaller c = let u = value-up c.in-Value.ensures in omega (arith, u.0, u.1)
 
@@ -61,11 +46,8 @@ loop-low-preserved c =
     let fits : SFits w64 z = search rules in
     rw (rw (to_z-of_z w64 z fits) at c.tell-tally.ensures) (line-value _ _ _ _ c.loop-low.invariant c.in-Value.n c.in-Value.q z _ c.in-Value.ensures)
 
-pub shut-u-requires : goal.shut-u-requires
-shut-u-requires c = record { rows_bound = omega (arith, c.loop-low.invariant.fits.rows, c.loop-low.invariant.inside); count_bound = omega (arith, c.loop-low.invariant.fits.runs, c.loop-low.invariant.inside) }
-
 pub returns-in-Closed : goal.returns-in-Closed
-returns-in-Closed c = rw (c.shut-u.ensures, c.make_row-row.ensures) (line-closed _ _ _ _ c.loop-low.invariant c.in-Closed.n _ c.in-Closed.ensures)
+returns-in-Closed c = rw (c.shut.ensures, c.make_row.ensures) (line-closed _ _ _ _ c.loop-low.invariant c.in-Closed.n _ c.in-Closed.ensures)
 
 pub returns-in-Refuse : goal.returns-in-Refuse
 returns-in-Refuse c = c.line_end.ensures ∙ line-refuse _ _ _ _ c.loop-low.invariant c.in-Refuse.n _ c.in-Refuse.ensures

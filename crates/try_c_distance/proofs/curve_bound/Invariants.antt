@@ -7,7 +7,4 @@ use own.Laws.{written_none, written-more, written_all, outcome-yes, outcome-no}
 use Rattle.try_c_distance.proofs.curve_bound.Given as goal
 
 abbrev pub invariant-loop-at : goal.invariant-loop-at
-invariant-loop-at l = ((length l.high ≡ length l.low) × Fits l.s (length l.low) (length l.initial.out) × AllIn l.low × AllIn l.high) × (l.n ≡ length l.s) × (l.m ≡ length l.low) × (l.at ≤ l.n - l.m + 1) × Written 0 (BoundAt l.s l.low l.high l.limit) l.at l.initial.out l.out
-
-abbrev pub decreases-loop-at : goal.decreases-loop-at
-decreases-loop-at l = l.n - l.m + 1 - l.at
+invariant-loop-at l = ((length l.high ≡ length l.low) × Fits l.s (length l.low) (length l.initial.out) × AllIn l.low × AllIn l.high) × Written 0 (BoundAt l.s l.low l.high l.limit) l.at l.initial.out l.out

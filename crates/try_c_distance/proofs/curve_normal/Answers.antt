@@ -11,10 +11,7 @@ loop-at-preserved c =
     let v = c.normal_values in (
       i.0,
       omega arith,
-      omega arith,
-      omega arith,
-      omega arith,
       λ l. c.sums_after-t.ensures (omega arith),
-      normal-next i.6 (rw i.4 at v.ensures),
-      written-more _ i.7 (omega arith) c.spread_of-a.ensures,
+      normal-next i.3 (rw i.1 at v.ensures),
+      written-more _ i.4 (omega arith) c.spread_of-a.ensures,
     )

@@ -7,8 +7,5 @@ use own.Laws.{written_none, written-more, written_all, outcome-yes, outcome-no, 
 use Rattle.try_c_distance.proofs.curve_normal.Given as goal
 
 abbrev pub invariant-loop-at : goal.invariant-loop-at
-invariant-loop-at l = Fits l.s (length l.initial.room) (length l.initial.out) × (l.n ≡ length l.s) × (l.m ≡ length l.initial.room) × (l.at ≤ l.n - l.m + 1) × (length l.room ≡ length l.initial.room)
-    × (l.at ≤ l.n - l.m → AreSums l.s l.at l.m l.t.values l.t.squares) × LastNormal l.s (length l.initial.room) l.at l.initial.room l.room × Written 0 (SpreadAt l.s (length l.initial.room)) l.at l.initial.out l.out
-
-abbrev pub decreases-loop-at : goal.decreases-loop-at
-decreases-loop-at l = l.n - l.m + 1 - l.at
+invariant-loop-at l = Fits l.s (length l.initial.room) (length l.initial.out) × (length l.room ≡ length l.initial.room)
+    × (l.at ≤ length l.s - length l.initial.room → AreSums l.s l.at (length l.initial.room) l.t.values l.t.squares) × LastNormal l.s (length l.initial.room) l.at l.initial.room l.room × Written 0 (SpreadAt l.s (length l.initial.room)) l.at l.initial.out l.out

@@ -7,7 +7,4 @@ use own.Laws.{written_none, written-more, written_all, outcome-yes, outcome-no}
 use Rattle.try_c_distance.proofs.curve_straight.Given as goal
 
 abbrev pub invariant-loop-at : goal.invariant-loop-at
-invariant-loop-at l = Fits l.s (length l.q) (length l.initial.out) × AllIn l.q × (l.n ≡ length l.s) × (l.m ≡ length l.q) × (l.at ≤ l.n - l.m + 1) × Written 0 (StraightAt l.s l.q l.limit) l.at l.initial.out l.out
-
-abbrev pub decreases-loop-at : goal.decreases-loop-at
-decreases-loop-at l = l.n - l.m + 1 - l.at
+invariant-loop-at l = Fits l.s (length l.q) (length l.initial.out) × AllIn l.q × Written 0 (StraightAt l.s l.q l.limit) l.at l.initial.out l.out

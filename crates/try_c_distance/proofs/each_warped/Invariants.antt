@@ -8,7 +8,4 @@ use own.Laws.{written_none, written-more, written_all}
 use Rattle.try_c_distance.proofs.each_warped.Given as goal
 
 abbrev pub invariant-loop-at : goal.invariant-loop-at
-invariant-loop-at l = Fits l.s (length l.q) (length l.initial.out) × AllIn l.q × (l.n ≡ length l.s) × (l.m ≡ length l.q) × (l.at ≤ l.n - l.m + 1) × Written 0 (WarpedAt l.s l.q l.b l.limit) l.at l.initial.out l.out × (length l.row ≡ 1025) × Envelopes l.q (length l.q) l.b l.low l.high
-
-abbrev pub decreases-loop-at : goal.decreases-loop-at
-decreases-loop-at l = l.n - l.m + 1 - l.at
+invariant-loop-at l = Fits l.s (length l.q) (length l.initial.out) × AllIn l.q × Written 0 (WarpedAt l.s l.q l.b l.limit) l.at l.initial.out l.out × (length l.row ≡ 1025) × Envelopes l.q (length l.q) l.b l.low l.high

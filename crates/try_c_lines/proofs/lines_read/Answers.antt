@@ -1,5 +1,5 @@
+use Rattle.std.specs.Prelude.{Ok, Err}
 use Rattle.meaning_numbers.proofs.Prelude.{◌-◌, rules, length, take, ◌≡◌, refl, ◌∙◌, arith}
-use Rattle.text_feed.specs.declared.Feeding.{Feeding}
 use Rattle.try_c_lines.specs.Piece.{Stands}
 use Rattle.try_c_lines.proofs as own
 use own.PieceLaws.{Comes}
@@ -13,13 +13,13 @@ pub loop-k-preserved : goal.loop-k-preserved
 loop-k-preserved c =
     let e = c.piece.ensures in
     let i = c.loop-k.invariant in
-    let g = goes_on i.1 e (omega arith) c.in-Going.is (omega arith) in
+    let g = goes_on i.1 e (omega arith) c.in-Ok.is (omega arith) in
     (g.0, g.1, e.alone ∙ i.2, e.first ∙ i.3, e.second ∙ i.4)
 
-pub returns-in-Failed : goal.returns-in-Failed
-returns-in-Failed c =
+pub returns-in-Err : goal.returns-in-Err
+returns-in-Err c =
     let i = c.loop-k.invariant in
-    rw c.bad.ensures (told _ _ (Feeding.Failed _) (fails i.1 c.piece.ensures (omega (arith, i.0.inside)) c.in-Failed.is))
+    rw c.bad.ensures (told _ _ (Err _) (fails i.1 c.piece.ensures (omega (arith, i.0.inside)) c.in-Err.is))
 
 pub returns : goal.returns
 returns c =

@@ -8,8 +8,5 @@ use Rattle.try_c_match.specs.Told.{SumAt, RowAt}
 use Rattle.try_c_match.proofs.curve_windows.Given as goal
 
 abbrev pub invariant-loop-at : goal.invariant-loop-at
-invariant-loop-at l = ((l.w ≤ 256) × (length l.initial.rows ≡ length l.initial.sums) × Fits l.s l.w (length l.initial.sums)) × (l.n ≡ length l.s) × (l.at ≤ l.n - l.w + 1)
-    × (l.at ≤ l.n - l.w → l.sum ≡ window_sum l.s l.w l.at) × Written (pos 0) (SumAt l.s l.w) l.at l.initial.sums l.sums × Written (pos 0) (RowAt l.s l.w l.d) l.at l.initial.rows l.rows
-
-abbrev pub decreases-loop-at : goal.decreases-loop-at
-decreases-loop-at l = l.n - l.w + 1 - l.at
+invariant-loop-at l = ((l.w ≤ 256) × (length l.initial.rows ≡ length l.initial.sums) × Fits l.s l.w (length l.initial.sums))
+    × (l.at ≤ length l.s - l.w → l.sum ≡ window_sum l.s l.w l.at) × Written (pos 0) (SumAt l.s l.w) l.at l.initial.sums l.sums × Written (pos 0) (RowAt l.s l.w l.d) l.at l.initial.rows l.rows

@@ -15,14 +15,10 @@ loop-at-preserved c =
     let f = c.match_at-found in
     let t = c.told in (
       i.0,
-      omega arith,
-      omega arith,
-      omega arith,
       (search rules, search rules),
       (search rules, search rules),
-      written-more _ i.6 (omega arith) (t.ensures ∙ ap wrapped f.ensures ∙ told-wrapped _ _ i.0.inside i.0.some i.0.short _ i.9.curve-is),
+      written-more _ i.3 (omega arith) (t.ensures ∙ ap wrapped f.ensures ∙ told-wrapped _ _ i.0.inside i.0.some i.0.short _ i.6.curve-is),
       λ l. c.sums_after-t.ensures (omega arith),
-      i.8,
-      i.9,
-      i.10,
+      i.5,
+      i.6,
     )

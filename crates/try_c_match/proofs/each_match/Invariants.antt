@@ -11,8 +11,5 @@ use own.Matches.{told-wrapped}
 use Rattle.try_c_match.proofs.each_match.Given as goal
 
 abbrev pub invariant-loop-at : goal.invariant-loop-at
-invariant-loop-at l = Fits l.s (length l.q) (length l.initial.out) × (l.n ≡ length l.s) × (l.m ≡ length l.q) × (l.at ≤ l.n - l.m + 1) × ((length l.room ≡ l.m) × (length l.room ≡ length l.initial.room)) × ((l.m < length l.row) × (length l.row ≡ length l.initial.row))
-    × Written 0 (MatchAt l.kind l.s l.q l.l) l.at l.initial.out l.out × (l.at ≤ l.n - l.m → AreSums l.s l.at l.m l.t.values l.t.squares) × (AllIn l.q × (l.l.scale ≤ 100)) × Ready l.kind l.q l.l.band l.curve l.low l.high l.query.values l.query.spread × (l.n ≤ 18446744073709551615)
-
-abbrev pub decreases-loop-at : goal.decreases-loop-at
-decreases-loop-at l = l.n - l.m + 1 - l.at
+invariant-loop-at l = Fits l.s (length l.q) (length l.initial.out) × ((length l.room ≡ length l.q) × (length l.room ≡ length l.initial.room)) × ((length l.q < length l.row) × (length l.row ≡ length l.initial.row))
+    × Written 0 (MatchAt l.kind l.s l.q l.l) l.at l.initial.out l.out × (l.at ≤ length l.s - length l.q → AreSums l.s l.at (length l.q) l.t.values l.t.squares) × (AllIn l.q × (l.l.scale ≤ 100)) × Ready l.kind l.q l.l.band l.curve l.low l.high l.query.values l.query.spread

@@ -1,9 +1,0 @@
--- `write_part`. The invariant: the first numbers are copied (`paste-suc`).
-use Rattle.meaning_numbers.proofs.Prelude.{◌≡◌, ◌-◌, ◌≤◌, paste}
-use Rattle.extend_parts.proofs.write_part.Given as goal
-
-abbrev pub invariant-loop-t : goal.invariant-loop-t
-invariant-loop-t l = (l.t ≤ l.n) × (l.part ≡ paste l.initial.part 0 l.numbers l.t)
-
-abbrev pub decreases-loop-t : goal.decreases-loop-t
-decreases-loop-t l = l.n - l.t

@@ -1,2 +1,0 @@
--- What the contracts of program_table cite.
-pub mod Table

@@ -1,9 +1,0 @@
--- `get_rows` meets its contract.
-use Rattle.meaning_numbers.proofs.Prelude.{◌-◌, ◌≤◌, rules, arith}
-use Rattle.try_search.proofs.get_rows.Given as goal
-
-abbrev pub invariant-loop-k : goal.invariant-loop-k
-invariant-loop-k l = l.k ≤ 64
-
-abbrev pub decreases-loop-k : goal.decreases-loop-k
-decreases-loop-k l = 64 - l.k

@@ -1,2 +1,0 @@
--- What the contracts of try_table cite.
-pub mod Table

@@ -1,9 +1,0 @@
--- `get_values` meets its contract.
-use Rattle.meaning_numbers.proofs.Prelude.{◌-◌, ◌≤◌, rules, length, length-set, ◌≡◌, arith}
-use Rattle.try_vectors.proofs.get_values.Given as goal
-
-abbrev pub invariant-loop-k : goal.invariant-loop-k
-invariant-loop-k l = (l.k ≤ length l.out) × (length l.out ≡ length l.initial.out)
-
-abbrev pub decreases-loop-k : goal.decreases-loop-k
-decreases-loop-k l = length l.out - l.k
