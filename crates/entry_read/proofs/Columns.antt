@@ -132,6 +132,15 @@ count_most : (t : Bool) (k : ℕ) → cond t (k + 1) k ≤ k + 1
 count_most true k = omega arith
 count_most false k = omega arith
 
+no_end : (p : Field) → (p ≡ Field.Left → ⊥) → (p ≡ Field.Right → ⊥) → (is_left p ≡ false) × (is_right p ≡ false)
+no_end Field.Window f g = (refl, refl)
+no_end Field.Width f g = (refl, refl)
+no_end Field.Windows f g = (refl, refl)
+no_end Field.Low f g = (refl, refl)
+no_end Field.Up f g = (refl, refl)
+no_end Field.Left f g = absurd (f refl)
+no_end Field.Right f g = absurd (g refl)
+
 module _ (text left₀ right₀ : List ℕ) where
   abbrev at-start : Columns
   at-start = start_columns left₀ right₀
@@ -175,6 +184,10 @@ module _ (text left₀ right₀ : List ℕ) where
         → Filling text left₀ right₀ (cond (is_right p) (set left k l) left) (cond (is_right p) (set right k (held z)) right) n (cond (is_left p) (held z) l) (cond (is_right p) (k + 1) k) j
     unfolding tell_columns
     filling-value n p z j e = value_keeps tell_columns text Fill to value-to here e r
+
+    -- a number that is no end of a run
+    pub filling-other : (n : State) (p : Field) (z : ℤ) (j : ℕ) → (p ≡ Field.Left → ⊥) → (p ≡ Field.Right → ⊥) → EventAt text s i (Event.Value n p z j) → Filling text left₀ right₀ left right n l k j
+    filling-other n p z j f g e = let q = no_end p f g in rw (q.0, q.1) at (filling-value n p z j e)
 
     pub filling-closed : (n : State) (j : ℕ) → EventAt text s i (Event.Closed n j) → Filling text left₀ right₀ left right n l k j
     filling-closed n j e =

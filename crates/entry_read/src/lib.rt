@@ -1,33 +1,22 @@
 // Reading an index text into lent buffers (01, Text and program): a pass that judges the text, and where nothing refuses a pass that puts its runs into the run buffer and one that puts its rows into the row records. What is not used of the buffers is made 0 at once. A refusal alters nothing.
 #![tactic(auto)]
 
-ghost use Rattle.std.specs.Prelude.{◌≡◌, cond, ◌+◌, ◌<◌, ◌≤◌, ◌^◌, length, set};
+ghost use Rattle.std.specs.Prelude.{◌≡◌, ◌<◌, ◌≤◌, length, set};
 ghost use Rattle.meaning_entries.specs.Demand2.{LoadKept};
-ghost use Rattle.refusals.specs.Refusal.{refusal_of};
+ghost use Rattle.refusals.specs.Refusal.{verdict};
 ghost use Rattle.text_event.specs.Event.{RunsFrom};
-ghost use Rattle.entry_read.specs.Runs.{is_left, is_right, tell_columns, run_stored, FilledRuns};
-ghost use Rattle.entry_read.specs.Plan.{refused_plan, rows_table, fit_plan, plan_for, Loads, plan_answer};
+ghost use Rattle.entry_read.specs.Runs.{tell_columns, run_stored, FilledRuns};
+ghost use Rattle.entry_read.specs.Plan.{rows_table, fit_plan, plan_for, Loads};
 
-use clear::clear_u32;
-use meaning_entries::Loaded;
+use meaning_entries::{Held, Reason, Refusal};
 use meaning_rows::{Head, Row};
-use numbers::{hold, shorter};
-use refusals::{Refusal, refuse_if, refuse_judged, unrefused};
+use numbers::hold;
+use refusals::{refuse_if, refuse_judged};
 use rows_records::clear_rows;
 use text_event::{Event, next_event, plain_run, run_left, run_length, run_right};
 use text_index::{Field, State, Turn, Word};
-use text_judge::{Rows, Scanned, judged_rows, scan};
+use text_judge::{Rows, judged_rows, scan};
 use text_rows::{bad_line, fill_rows};
-
-// What is known before anything is stored: what refuses; else the head, and how many rows and runs there are; and from where on the row records become records of zeros.
-#[derive(Clone, Copy)]
-pub struct ReadPlan {
-    pub refusal: Refusal,
-    pub head: Head,
-    pub rows: usize,
-    pub runs: usize,
-    pub from: usize,
-}
 
 // The left end of the last run that is stored, how many there are, and the place behind it in the text.
 #[derive(Clone, Copy)]
@@ -37,91 +26,34 @@ pub struct Stored {
     pub at: usize,
 }
 
-// Where so many row records are lent, none is altered.
-fn refused(refusal: Refusal, rows: usize) -> ReadPlan
-    ensures { result ≡ refused_plan refusal rows }
-{
-    let head = Head {
-        window: 0,
-        width: 0,
-        windows: 0,
-    };
-    ReadPlan {
-        refusal,
-        head,
-        rows: 0,
-        runs: 0,
-        from: rows,
-    }
-}
-
 // What refuses a text that can be read, where there is room for so many rows and runs.
-fn refuse_rows(head: Head, c: Rows, rows: usize, runs: usize) -> Refusal
-    ensures { result ≡ refusal_of (rows_table head c rows runs) }
+fn refuse_rows(head: Head, c: Rows, rows: usize, runs: usize) -> Result<(), Refusal>
+    ensures { result ≡ verdict (rows_table head c rows runs) }
 {
-    let second = refuse_if(runs < c.runs, 23, unrefused());
-    let first = refuse_if(rows < c.rows, 23, second);
-    refuse_judged(judged_rows(head, c), first)
+    refuse_judged(judged_rows(head, c))?;
+    refuse_if(rows < c.rows, Reason::Room)?;
+    refuse_if(runs < c.runs, Reason::Room)
 }
 
 // The plan for such a text.
-fn plan_fine(head: Head, c: Rows, rows: usize, runs: usize) -> ReadPlan
+fn plan_fine(head: Head, c: Rows, rows: usize, runs: usize) -> Result<Held, Refusal>
     ensures { result ≡ fit_plan head c rows runs }
 {
-    let refusal = refuse_rows(head, c, rows, runs);
-    if refusal.number != 0 {
-        return refused(refusal, rows);
-    }
-    ReadPlan {
-        refusal,
+    refuse_rows(head, c, rows, runs)?;
+    Ok(Held {
         head,
         rows: c.rows,
         runs: c.runs,
-        from: c.rows,
-    }
+    })
 }
 
-// The plan for a text.
-pub fn make_plan(text: &[u8], rows: usize, runs: usize) -> ReadPlan
+// The plan for a text, before anything is stored: what refuses it, or the index that the buffers will hold.
+pub fn make_plan(text: &[u8], rows: usize, runs: usize) -> Result<Held, Refusal>
     ensures { result ≡ plan_for text.now rows runs }
 {
     match scan(text) {
-        Scanned::Bad(at) => {
-            let refusal = Refusal {
-                number: 12,
-                place: bad_line(text, at),
-            };
-            refused(refusal, rows)
-        }
-        Scanned::Fine(head, c) => plan_fine(head, c, rows, runs),
-    }
-}
-
-fn is_left(p: Field) -> bool
-    ensures { result ≡ is_left p }
-{
-    match p {
-        Field::Window => false,
-        Field::Width => false,
-        Field::Windows => false,
-        Field::Low => false,
-        Field::Up => false,
-        Field::Left => true,
-        Field::Right => false,
-    }
-}
-
-fn is_right(p: Field) -> bool
-    ensures { result ≡ is_right p }
-{
-    match p {
-        Field::Window => false,
-        Field::Width => false,
-        Field::Windows => false,
-        Field::Low => false,
-        Field::Up => false,
-        Field::Left => false,
-        Field::Right => true,
+        Ok((head, c)) => plan_fine(head, c, rows, runs),
+        Err(at) => Err(Refusal::at(Reason::Text, bad_line(text, at))),
     }
 }
 
@@ -129,31 +61,10 @@ fn is_right(p: Field) -> bool
 fn put(out: &mut [u32], k: usize, x: u32)
     ensures { out.new ≡ set out.old k x }
 {
+    // Not by `get_mut`: of a slice it promises nothing about the other entries.
     if k < out.len() {
         out[k] = x;
     }
-}
-
-// The same where it is wanted.
-fn put_if(wanted: bool, out: &mut [u32], k: usize, x: u32)
-    ensures { out.new ≡ cond wanted (set out.old k x) out.old }
-{
-    if wanted {
-        put(out, k, x);
-    }
-}
-
-fn count_if(wanted: bool, k: usize) -> usize
-    requires { k < 2 ^ 63 }
-    ensures { result ≡ cond wanted (k + 1) k }
-{
-    if wanted { k + 1 } else { k }
-}
-
-fn pick_if(wanted: bool, x: u32, y: u32) -> u32
-    ensures { result ≡ cond wanted x y }
-{
-    if wanted { x } else { y }
 }
 
 // A run is put at place k, and behind it the runs from a place of the text on, as far as they are small.
@@ -215,12 +126,15 @@ pub fn fill_runs(text: &[u8], left: &mut [u32], right: &mut [u32])
                 i = w.at;
             }
             Event::Value(n, p, z, at) => {
-                let x = hold(z);
-                let ends = is_right(p);
-                put_if(ends, left, k, l);
-                put_if(ends, right, k, x);
-                k = count_if(ends, k);
-                l = pick_if(is_left(p), x, l);
+                match p {
+                    Field::Left => l = hold(z),
+                    Field::Right => {
+                        put(left, k, l);
+                        put(right, k, hold(z));
+                        k += 1;
+                    }
+                    _ => {}
+                }
                 s = n;
                 i = at;
             }
@@ -228,55 +142,39 @@ pub fn fill_runs(text: &[u8], left: &mut [u32], right: &mut [u32])
                 s = n;
                 i = at;
             }
-            Event::Refuse(_, _) => {
-                return;
-            }
-            Event::End(_, _) => {
-                return;
-            }
+            Event::Refuse(_, _) => return,
+            Event::End(_, _) => return,
         }
     }
 }
 
 // The plan for a text, and where nothing refuses its runs in the run buffer.
-pub fn load_runs(text: &[u8], rows: usize, left: &mut [u32], right: &mut [u32]) -> ReadPlan
+pub fn load_runs(
+    text: &[u8],
+    rows: usize,
+    left: &mut [u32],
+    right: &mut [u32],
+) -> Result<Held, Refusal>
     ensures { Loads text.now rows left.old right.old result left.new right.new }
 {
-    let room = shorter(left.len(), right.len());
-    let p = make_plan(text, rows, room);
-    if p.refusal.number != 0 {
-        return p;
-    }
-    clear_u32(left, 0);
-    clear_u32(right, 0);
+    let plan = make_plan(text, rows, left.len().min(right.len()))?;
+    left.fill(0);
+    right.fill(0);
     fill_runs(text, left, right);
-    p
-}
-
-// What is answered.
-pub fn answer(p: ReadPlan) -> Loaded
-    ensures { result ≡ plan_answer p }
-{
-    let head = p.head;
-    if p.refusal.number != 0 {
-        return Loaded::Refused {
-            number: p.refusal.number,
-            place: p.refusal.place,
-        };
-    }
-    Loaded::Index {
-        head,
-        rows: p.rows,
-        runs: p.runs,
-    }
+    Ok(plan)
 }
 
 // An index text becomes an index in lent buffers.
-pub fn read(text: &[u8], rows: &mut [Row], left: &mut [u32], right: &mut [u32]) -> Loaded
+pub fn read(
+    text: &[u8],
+    rows: &mut [Row],
+    left: &mut [u32],
+    right: &mut [u32],
+) -> Result<Held, Refusal>
     ensures { LoadKept text.now (record { rows = rows.old; left = left.old; right = right.old }) result (record { rows = rows.new; left = left.new; right = right.new }) }
 {
-    let p = load_runs(text, rows.len(), left, right);
-    clear_rows(rows, p.from);
-    fill_rows(text, p.rows, rows);
-    answer(p)
+    let held = load_runs(text, rows.len(), left, right)?;
+    clear_rows(rows, held.rows);
+    fill_rows(text, held.rows, rows);
+    Ok(held)
 }

@@ -1,28 +1,28 @@
 -- The entry keeps its promise: what it answers, and what it leaves in the text, by the first refusal.
 use Rattle.std.specs.Prelude.{Ok, Err}
 use Rattle.std.specs.declared.result.Result.{Result}
-use Rattle.meaning_numbers.proofs.Prelude.{◌≡◌, refl, sym, ap, ◌∙◌, true, false, List, ℕ, ◌≤◌, arith, ltb, length, sets, sets-eq, length-sets, take-append-le, take-length, lt-ltb, le-ltb, ltb-true, ltb-false, by-test}
+use Rattle.meaning_numbers.proofs.Prelude.{◌≡◌, refl, sym, ap, ◌∙◌, List, ℕ, ◌≤◌, arith, ltb, length, sets-eq, length-sets, take-append-le, take-length, lt-ltb, le-ltb, ltb-true, ltb-false, by-test}
 use Rattle.meaning_rows.specs.Index.{Index}
 use Rattle.meaning_text.specs.Texts.{index_text}
 use Rattle.meaning_entries.specs.{declared.Refusal.Refusal, Refusal.buffer_short, Buffers.filled, Write.write_table, Write.write_answer, Write.write_after, Demand2.WriteKept}
 use Rattle.meaning_entries.proofs.{Refused.AllPass, Refused.passed_is, Refused.open_lines, Refused.passed-line, Lines.room-line, Demand2.write_kept}
-use Rattle.clear.specs.Clear.{cleared_to, cleared_from}
+use Rattle.clear.specs.Clear.{cleared_to}
 use Rattle.rows_judge.specs.Judged.{Judged, judged_of, bad-row}
 use Rattle.refusals.specs.Refusal.{verdict, judged-line, passes, refuses}
-use Rattle.entry_write.specs.{Spell.Ended, Answer.table_of}
+use Rattle.text_count.specs.Count.{Counted}
+use Rattle.entry_write.specs.{Spell.spelled, Answer.table_of}
 
 -- a text with room, and zeros behind it
-whole : (l text : List ℕ) (to : ℕ) → length l ≤ length text → to ≡ length l → cleared_from to (sets text 0 l) ≡ filled 0 l text
+whole : (l text : List ℕ) → length l ≤ length text → spelled l text ≡ filled 0 l text
 unfolding cleared_to filled
-whole l text to h e =
-    rw (e, length-sets text 0 l, sets-eq l text 0 (omega arith), take-append-le (length l) l _ (omega arith), take-length l)
+whole l text h = rw (length-sets text 0 l, sets-eq l text 0 (omega arith), take-append-le (length l) l _ (omega arith), take-length l)
 
 -- ---- at the two returns
 
-module _ (x : Index) (text : List ℕ) {j : Judged} {n : ℕ} {v : Result (Unit {0}) Refusal} {counted : List ℕ} (judged : j ≡ judged_of x) (count : Ended false text 0 (index_text x) counted n) (told : v ≡ verdict (table_of j n (length counted))) where
-  table_is : table_of j n (length counted) ≡ write_table x text
+module _ (x : Index) (text : List ℕ) {j : Judged} {n : ℕ} {v : Result (Unit {0}) Refusal} (judged : j ≡ judged_of x) (count : Counted (length text) 0 (index_text x) n) (told : v ≡ verdict (table_of j n (length text))) where
+  table_is : table_of j n (length text) ≡ write_table x text
   unfolding table_of write_table buffer_short
-  table_is = rw (judged, count.holds, judged-line x _ (bad-row x), same) refl
+  table_is = rw (judged, judged-line x _ (bad-row x), same) refl
     where
       same : ltb (length text) n ≡ ltb (length text) (length (index_text x))
       same = by-test _
@@ -33,11 +33,11 @@ module _ (x : Index) (text : List ℕ) {j : Judged} {n : ℕ} {v : Result (Unit 
   is = told ∙ ap verdict table_is
 
   -- a refused call leaves the text as it was
-  pub kept-refused : {r : Refusal} → v ≡ Err r → WriteKept x text (Err r) counted
+  pub kept-refused : {r : Refusal} → v ≡ Err r → WriteKept x text (Err r) text
   unfolding write_answer write_after
   kept-refused {r} h =
       let e = refuses (write_table x text) is h in
-      write_kept x text (Err r) counted (rw (write_answer, e) refl) (count.holds ∙ rw (write_after, e) refl)
+      write_kept x text (Err r) text (rw (write_answer, e) refl) (rw (write_after, e) refl)
 
   module _ (z : v ≡ Ok tt) where
     passed : AllPass (write_table x text)
@@ -47,12 +47,9 @@ module _ (x : Index) (text : List ℕ) {j : Judged} {n : ℕ} {v : Result (Unit 
     unfolding open_lines write_table
     fits = room-line _ (length (index_text x)) (passed-line passed 23)
 
-    pub kept-written : {new : List ℕ} {to : ℕ} → Ended true counted 0 (index_text x) new to → WriteKept x text (Ok n) new
+    pub kept-written : {new : List ℕ} → new ≡ spelled (index_text x) text → WriteKept x text (Ok n) new
     unfolding write_answer write_after
-    kept-written {new} {to} d =
+    kept-written {new} d =
         let e = passed_is passed in
-        let long = ap length count.holds in
         let m : n ≡ length (index_text x) = omega (arith, fits, count.ends) in
-        let k : to ≡ length (index_text x) = omega (arith, fits, d.ends, long) in
-        write_kept x text (Ok n) new (rw (write_answer, e, m) refl)
-        (rw (write_after, e) (d.holds ∙ ap (λ (l : List ℕ). cleared_from to (sets l 0 (index_text x))) count.holds ∙ whole (index_text x) text to fits k))
+        write_kept x text (Ok n) new (rw (write_answer, e, m) refl) (rw (write_after, e) (d ∙ whole (index_text x) text fits))

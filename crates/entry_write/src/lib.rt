@@ -1,12 +1,12 @@
-// The entry write: a lent index becomes an index text. The text is counted first, then written by the same loop over the row records.
+// The entry write: a lent index becomes an index text. The text is counted first, then written.
 #![tactic(auto)]
 
-ghost use Rattle.std.specs.Prelude.{◌≡◌, ◌<◌, pos, length};
+ghost use Rattle.std.specs.Prelude.{◌≡◌, ◌<◌, ◌^◌, length};
 ghost use Rattle.meaning_rows.specs.Index.{lent};
 ghost use Rattle.meaning_text.specs.Texts.{index_text};
 ghost use Rattle.meaning_entries.specs.Demand2.{WriteKept};
-ghost use Rattle.text_write.specs.Write.{head_text, end_text, row_text};
-ghost use Rattle.entry_write.specs.Spell.{Spelled, Ended};
+ghost use Rattle.text_count.specs.Count.{Counted};
+ghost use Rattle.entry_write.specs.Spell.{spelled};
 ghost use Rattle.refusals.specs.Refusal.{verdict};
 ghost use Rattle.entry_write.specs.Answer.{table_of};
 
@@ -18,61 +18,28 @@ use rows_judge::judge;
 use text_count::{count_end, count_head, count_row};
 use text_write::{write_end, write_head, write_row};
 
-// The head at the front of the text: stored, or only counted.
-pub fn spell_head(text: &mut [u8], store: bool, h: Head) -> usize
-    ensures { Spelled store text.old 0 (head_text (pos h.window) (pos h.width) (pos h.windows)) text.new result }
+// How many bytes the text has, counted to one past a limit.
+pub fn count_index(limit: usize, head: Head, rows: &[Row], left: &[u32], right: &[u32]) -> usize
+    requires { limit < 2 ^ 63 }
+    ensures { Counted limit 0 (index_text (lent head rows.now left.now right.now)) result }
 {
-    if store {
-        return write_head(text, 0, h);
-    }
-    count_head(text.len(), 0, h)
-}
-
-// A row with its runs, likewise, from a place on.
-pub fn spell_row(
-    text: &mut [u8],
-    store: bool,
-    at: usize,
-    r: Row,
-    left: &[u32],
-    right: &[u32],
-) -> usize
-    ensures { Spelled store text.old at (row_text r left.now right.now) text.new result }
-{
-    if store {
-        return write_row(text, at, r, left, right);
-    }
-    count_row(text.len(), at, r, left, right)
-}
-
-// The end, likewise; where it is stored, zeros behind it.
-pub fn spell_end(text: &mut [u8], store: bool, at: usize) -> usize
-    ensures { Ended store text.old at end_text text.new result }
-{
-    if store {
-        let to = write_end(text, at);
-        clear(text, to, 0);
-        return to;
-    }
-    count_end(text.len(), at)
-}
-
-// The whole text: stored with zeros behind it, or only counted.
-pub fn spell_index(
-    text: &mut [u8],
-    store: bool,
-    head: Head,
-    rows: &[Row],
-    left: &[u32],
-    right: &[u32],
-) -> usize
-    ensures { Ended store text.old 0 (index_text (lent head rows.now left.now right.now)) text.new result }
-{
-    let mut to = spell_head(text, store, head);
+    let mut at = count_head(limit, 0, head);
     for &r in rows {
-        to = spell_row(text, store, to, r, left, right);
+        at = count_row(limit, at, r, left, right);
     }
-    spell_end(text, store, to)
+    count_end(limit, at)
+}
+
+// The text is stored, with zeros behind it.
+pub fn write_index(text: &mut [u8], head: Head, rows: &[Row], left: &[u32], right: &[u32])
+    ensures { text.new ≡ spelled (index_text (lent head rows.now left.now right.now)) text.old }
+{
+    let mut at = write_head(text, 0, head);
+    for &r in rows {
+        at = write_row(text, at, r, left, right);
+    }
+    let to = write_end(text, at);
+    clear(text, to, 0);
 }
 
 // What refuses a text of n bytes, counted to one past the buffer's size, by what judging said of its index.
@@ -94,8 +61,9 @@ pub fn write(
     ensures { WriteKept (lent head rows.now left.now right.now) text.old result text.new }
 {
     let judged = judge(head, rows, left, right);
-    let n = spell_index(text, false, head, rows, left, right);
-    refuse_write(judged, n, text.len())?;
-    spell_index(text, true, head, rows, left, right);
+    let size = text.len();
+    let n = count_index(size, head, rows, left, right);
+    refuse_write(judged, n, size)?;
+    write_index(text, head, rows, left, right);
     Ok(n)
 }

@@ -4,8 +4,9 @@ use mir.Val.{SFits}
 use mir.ValLaws.{to_z-of_z}
 use borrow.Author.Rules.{rules}
 use native.Mathlib.Omega.{arith}
+use Rattle.text_index.specs.declared.Field.{Field}
 use Rattle.text_event.proofs.EventLaws.{row_up, run_up, runs_up, value-up, closed-up}
-use Rattle.entry_read.proofs.Columns.{filling-start, filling-run, filling-row, filling-runs, filling-value, filling-closed, filling-refuse, filling-end}
+use Rattle.entry_read.proofs.Columns.{filling-start, filling-run, filling-row, filling-runs, filling-value, filling-other, filling-closed, filling-refuse, filling-end}
 use Rattle.entry_read.proofs.fill_runs.Goals as goal
 
 pub loop-a-init : goal.loop-a-init
@@ -35,18 +36,34 @@ loop-a-preserved-in-Run c =
     rw c.in-Run.ensures.0
     (filling-runs _ _ _ c.put_runs-w-in-Run.ensures (filling-run _ _ _ c.loop-a.invariant _ _ _ (search rules) (search rules) c.in-Run.ensures))
 
-pub count_if-k-requires : goal.count_if-k-requires
-count_if-k-requires c = omega (arith, c.loop-a.invariant.count, c.loop-a.invariant.kept.inside)
+pub overflow_add-k : goal.overflow_add-k
+overflow_add-k c = omega (arith, c.loop-a.invariant.count, c.loop-a.invariant.kept.inside)
 
-pub loop-a-smaller-in-Value : goal.loop-a-smaller-in-Value
-loop-a-smaller-in-Value c = let u = value-up c.in-Value.ensures in omega (arith, u.0, u.1)
+pub loop-a-smaller-in-Left : goal.loop-a-smaller-in-Left
+loop-a-smaller-in-Left c = let u = value-up c.in-Value.ensures in omega (arith, u.0, u.1)
 
-pub loop-a-preserved-in-Value : goal.loop-a-preserved-in-Value
-loop-a-preserved-in-Value c =
+pub loop-a-preserved-in-Left : goal.loop-a-preserved-in-Left
+loop-a-preserved-in-Left c =
     let z = c.in-Value.z in
     let fits : SFits w64 z = search rules in
-    rw (c.put_if.ensures, c.put_if-in-Value.ensures, c.count_if-k.ensures, c.pick_if-l.ensures, c.is_right-ends.ensures, c.is_left.ensures, c.hold-x.ensures, to_z-of_z w64 z fits)
-    (filling-value _ _ _ c.loop-a.invariant _ _ z _ c.in-Value.ensures)
+    rw (c.hold-l.ensures, to_z-of_z w64 z fits)
+    (filling-value _ _ _ c.loop-a.invariant _ Field.Left z _ (rw c.in-Left.is at c.in-Value.ensures))
+
+pub loop-a-smaller-in-Right : goal.loop-a-smaller-in-Right
+loop-a-smaller-in-Right c = let u = value-up c.in-Value.ensures in omega (arith, u.0, u.1)
+
+pub loop-a-preserved-in-Right : goal.loop-a-preserved-in-Right
+loop-a-preserved-in-Right c =
+    let z = c.in-Value.z in
+    let fits : SFits w64 z = search rules in
+    rw (c.put.ensures, c.put-in-Right.ensures, c.hold.ensures, to_z-of_z w64 z fits)
+    (filling-value _ _ _ c.loop-a.invariant _ Field.Right z _ (rw c.in-Right.is at c.in-Value.ensures))
+
+pub loop-a-smaller-in_default : goal.loop-a-smaller-in_default
+loop-a-smaller-in_default c = let u = value-up c.in-Value.ensures in omega (arith, u.0, u.1)
+
+pub loop-a-preserved-in_default : goal.loop-a-preserved-in_default
+loop-a-preserved-in_default c = filling-other _ _ _ c.loop-a.invariant _ _ _ _ c.in_default.not-Left c.in_default.not-Right c.in-Value.ensures
 
 pub loop-a-smaller : goal.loop-a-smaller
 loop-a-smaller c = let u = closed-up c.in-Closed.ensures in omega (arith, u.0, u.1)

@@ -1,16 +1,20 @@
--- `load_runs`. By the number of the plan: nothing is altered, or the columns were cleared and filled.
-use mathlib.Core.Path.{ap, ◌∙◌}
-use Rattle.clear.proofs.Clear.{cleared-all}
+-- `load_runs`. By the plan: nothing is altered, or the columns were cleared and filled.
+use Rattle.std.specs.Prelude.{Err}
+use Rattle.std.proofs.Common.{◌≡◌, ap, ◌∙◌, length, replicate, rules}
 use Rattle.entry_read.specs.Plan.{plan_for}
 use Rattle.entry_read.proofs.Planned.{column-stays, column-filled}
 use Rattle.entry_read.proofs.load_runs.Goals as goal
 
-pub returns-then-p-ne0 : goal.returns-then-p-ne0
-returns-then-p-ne0 c =
-    record { planned = c.make_plan-p.ensures ∙ ap (plan_for c.args.text.now c.args.rows) c.shorter-room.ensures; lefts = column-stays _ _ _ c.if-p-ne0.true; rights = column-stays _ _ _ c.if-p-ne0.true }
+pub returns-in_err-plan : goal.returns-in_err-plan
+returns-in_err-plan c =
+    let e : c.from_residual.result ≡ Err c.in_err-plan.field-0.0 = search rules in
+    rw e (record { planned = c.in_err-plan.ensures ∙ ap (plan_for c.args.text.now c.args.rows) c.min.ensures; lefts = column-stays _ _ _; rights = column-stays _ _ _ })
 
 pub returns : goal.returns
 returns c =
-    let e = c.make_plan-p.ensures ∙ ap (plan_for c.args.text.now c.args.rows) c.shorter-room.ensures in
-    let q = column-filled _ _ _ _ _ _ e c.if-p-ne0.false _ _ _ _ (c.clear_u32.ensures ∙ cleared-all _) (c.clear_u32-2.ensures ∙ cleared-all _) c.fill_runs.ensures in
+    let a = c.args in
+    let e = c.in_ok-plan.ensures ∙ ap (plan_for a.text.now a.rows) c.min.ensures in
+    let l : c.fill.new.self ≡ replicate (length a.left.now) 0 = search rules in
+    let r : c.fill-2.new.self ≡ replicate (length a.right.now) 0 = search rules in
+    let q = column-filled _ _ _ _ _ _ e _ _ _ _ l r c.fill_runs.ensures in
     record { planned = e; lefts = q.0; rights = q.1 }

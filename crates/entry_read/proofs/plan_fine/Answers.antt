@@ -1,29 +1,29 @@
 -- `plan_fine`, by what refuses.
-use Prim.Native.Nat.{ℕ}
-use borrow.Author.Tests.{eq-eqb, ne_eqb}
-use mathlib.Core.Path.{◌≡◌, refl, ◌∙◌}
+use Rattle.std.specs.Prelude.{Ok, Err}
+use Rattle.std.specs.declared.result.Result.{Result}
+use Rattle.std.proofs.Common.{◌≡◌, sym, ap, ◌∙◌, ℕ, rules}
 use Rattle.meaning_rows.specs.declared.Head.{Head}
-use Rattle.refusals.specs.declared.Refusal.{Refusal}
-use Rattle.refusals.specs.Refusal.{refusal_of}
+use Rattle.meaning_entries.specs.{declared.Refusal.Refusal, Answers.held}
+use Rattle.meaning_entries.proofs.Refused.{passed_is}
+use Rattle.refusals.specs.Refusal.{verdict, passes, refuses}
 use Rattle.text_judge.specs.declared.Rows.{Rows}
-use Rattle.entry_read.specs.Plan.{refused_plan, rows_table, plan_by, fit_plan}
+use Rattle.entry_read.specs.Plan.{rows_table, plan_by, fit_plan}
 use Rattle.entry_read.proofs.plan_fine.Goals as goal
 
--- the plan, by the refusal that the code has
-by : (r : Refusal) (h : Head) (c : Rows) (rows runs : ℕ) → r ≡ refusal_of (rows_table h c rows runs) → plan_by r h c rows ≡ fit_plan h c rows runs
-unfolding fit_plan
-by r h c rows runs e = rw e
+module _ (h : Head) (c : Rows) (rows runs : ℕ) {v : Result (Unit {0}) Refusal} (is : v ≡ verdict (rows_table h c rows runs)) where
+  stopped : {r : Refusal} → v ≡ Err r → Err r ≡ fit_plan h c rows runs
+  unfolding fit_plan
+  stopped e = sym (ap (λ o. plan_by o h c) (refuses (rows_table h c rows runs) is e))
 
-refused-by : (r : Refusal) (h : Head) (c : Rows) (rows : ℕ) → (r.number ≡ 0 → ⊥) → refused_plan r rows ≡ plan_by r h c rows
-refused-by r h c rows f = rw (ne_eqb r.number 0 f) refl
+  free : v ≡ Ok tt → Ok (held h c.rows c.runs) ≡ fit_plan h c rows runs
+  unfolding fit_plan
+  free e = sym (ap (λ o. plan_by o h c) (passed_is (passes (rows_table h c rows runs) is e)))
 
-free-by : (r : Refusal) (h : Head) (c : Rows) (rows : ℕ) → r.number ≡ 0 → record { refusal = r; head = h; rows = c.rows; runs = c.runs; from = c.rows } ≡ plan_by r h c rows
-free-by r h c rows z = rw (eq-eqb r.number 0 z) refl
-
-pub returns-then-refusal-ne0 : goal.returns-then-refusal-ne0
-returns-then-refusal-ne0 c =
+pub returns-in_err-refuse_rows : goal.returns-in_err-refuse_rows
+returns-in_err-refuse_rows c =
     let a = c.args in
-    c.refused.ensures ∙ refused-by _ a.head a.c a.rows c.if-refusal-ne0.true ∙ by _ a.head a.c a.rows a.runs c.refuse_rows-refusal.ensures
+    let e : c.from_residual.result ≡ Err c.in_err-refuse_rows.field-0.0 = search rules in
+    e ∙ stopped a.head a.c a.rows a.runs c.refuse_rows.ensures c.in_err-refuse_rows.was
 
 pub returns : goal.returns
-returns c = let a = c.args in free-by _ a.head a.c a.rows c.if-refusal-ne0.false ∙ by _ a.head a.c a.rows a.runs c.refuse_rows-refusal.ensures
+returns c = let a = c.args in free a.head a.c a.rows a.runs c.refuse_rows.ensures c.in_ok-refuse_rows.was

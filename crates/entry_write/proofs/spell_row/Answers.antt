@@ -1,9 +1,0 @@
--- `spell_row`. By the flag: written, or counted.
-use Rattle.entry_write.proofs.Spell.{spelled-stored, spelled-only}
-use Rattle.entry_write.proofs.spell_row.Goals as goal
-
-pub returns-then-store : goal.returns-then-store
-returns-then-store c = spelled-stored c.if-store.true c.write_row.ensures
-
-pub returns : goal.returns
-returns c = spelled-only c.if-store.false c.count_row.ensures
