@@ -10,69 +10,51 @@ ghost use Rattle.meaning_entries.specs.Both.{Demand3Kept};
 
 use entry_audit::audit_covered;
 use entry_search::{pick_all, search};
-use meaning_entries::{Audited, Both, Found};
+use meaning_entries::{Audited, Both, Found, Refusal};
 use meaning_filter::Ask;
 use meaning_rows::{Head, Row};
 
 // An audit says yes.
-fn says_yes(a: Audited) -> bool
-    ensures { result ≡ yes a }
+#[tactic(auto, unfolding(meaning_entries::specs::Both::yes))]
+fn says_yes(audited: Result<Audited, Refusal>) -> bool
+    ensures { result ≡ yes audited }
 {
-    match a {
-        Audited::Yes => true,
-        Audited::Wrong { row, offset } => false,
-        Audited::Missing { count } => false,
-        Audited::Refused { number, place } => false,
-    }
+    matches!(audited, Ok(Audited::Yes))
 }
 
 // What a second search comes to, where the first listed `count` matches.
-fn tell_second(count: usize, second: Found) -> Both
+#[tactic(auto, unfolding(meaning_entries::specs::Both::told_second))]
+fn tell_second(count: usize, second: Result<Found, Refusal>) -> Both
     ensures { result ≡ told_second count second }
 {
     match second {
-        Found::All {
-            candidates,
-            matches,
-        } => Both::Listed {
+        Ok(Found::All { matches, .. }) => Both::Listed {
             first: count,
             second: matches,
         },
-        Found::Full {
-            candidates,
-            matches,
-        } => Both::SecondSearch { found: second },
-        Found::Few {
-            candidates,
-            matches,
-        } => Both::SecondSearch { found: second },
-        Found::Refused { number, place } => Both::SecondSearch { found: second },
+        _ => Both::SecondSearch { found: second },
     }
 }
 
 // What two searches come to.
-fn tell_found(first: Found, second: Found) -> Both
+#[tactic(auto, unfolding(meaning_entries::specs::Both::told_found))]
+fn tell_found(first: Result<Found, Refusal>, second: Result<Found, Refusal>) -> Both
     ensures { result ≡ told_found first second }
 {
     match first {
-        Found::All {
-            candidates,
-            matches,
-        } => tell_second(matches, second),
-        Found::Full {
-            candidates,
-            matches,
-        } => Both::FirstSearch { found: first },
-        Found::Few {
-            candidates,
-            matches,
-        } => Both::FirstSearch { found: first },
-        Found::Refused { number, place } => Both::FirstSearch { found: first },
+        Ok(Found::All { matches, .. }) => tell_second(matches, second),
+        _ => Both::FirstSearch { found: first },
     }
 }
 
 // What two audits and two searches come to.
-fn tell(one: Audited, two: Audited, first: Found, second: Found) -> Both
+#[tactic(auto, unfolding(meaning_entries::specs::Both::told))]
+fn tell(
+    one: Result<Audited, Refusal>,
+    two: Result<Audited, Refusal>,
+    first: Result<Found, Refusal>,
+    second: Result<Found, Refusal>,
+) -> Both
     ensures { result ≡ told one two first second }
 {
     if !says_yes(one) {

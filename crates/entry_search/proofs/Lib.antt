@@ -1,5 +1,4 @@
 -- Laws of entry_search.
 pub mod Looks
 pub mod Only
-pub mod Refused
 pub mod SoughtLaws

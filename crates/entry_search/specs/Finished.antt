@@ -1,12 +1,10 @@
--- Checking candidates: what it asks for (`FinishReady`) and what is promised of it (`Finished`).
-use Rattle.std.specs.Prelude.{ℕ, ◌≤◌, ℤ, List, ◌≡◌}
-use Rattle.meaning_rows.specs.Runs.{runs}
+-- Checking the candidates that were found: what it asks for (`FinishReady`) and what is promised of it (`Finished`).
+use Rattle.std.specs.Prelude.{ℕ, ◌≤◌, ℤ, List}
 use Rattle.meaning_filter.specs.{declared.Ask.Ask, Matches.offset_count, Closest.fewest}
 use Rattle.meaning_entries.specs.{declared.Found.Found, Buffers.pair_room}
 use Rattle.check_list.specs.{Members.members, Found.RunsLent, Found.lent_runs, Found.found}
 use Rattle.check_answer.specs.Answer.{wanted, Limited, Answers}
 use Rattle.candidate_find.specs.declared.Sought.{Sought}
-use Rattle.entry_search.specs.Refused.{refused_as}
 
 -- what checking them asks for
 pub record FinishReady (ask : Ask) (s q : List ℤ) (t : Sought) (first last offsets distances : List ℕ) : Type 0 where
@@ -14,7 +12,7 @@ pub record FinishReady (ask : Ask) (s q : List ℤ) (t : Sought) (first last off
   pub lent : RunsLent (offset_count (wanted ask s q)) first last t.runs
   pub fits : fewest ask.pick ≤ pair_room offsets distances
 
--- checking them: a refusal is answered and alters nothing; else what is handed out of the matches among them is listed
-pub record Finished (ask : Ask) (s q : List ℤ) (t : Sought) (first last offsets distances : List ℕ) (answer : Found) (offsets' distances' : List ℕ) : Type 0 where
-  pub refused : (t.refusal.number ≡ 0 → ⊥) → (answer ≡ refused_as t.refusal) × (offsets' ≡ offsets) × (distances' ≡ distances)
-  pub answered : t.refusal.number ≡ 0 → Answers ask.pick (found (wanted ask s q) (members (lent_runs first last t.runs))) t.candidates answer offsets distances offsets' distances'
+-- what is handed out of the matches among them is listed, and that is answered
+abbrev pub Finished : Ask → List ℤ → List ℤ → Sought → List ℕ → List ℕ → List ℕ → List ℕ → Found → List ℕ → List ℕ → Type 0
+Finished ask s q t first last offsets distances answer offsets' distances' =
+    Answers ask.pick (found (wanted ask s q) (members (lent_runs first last t.runs))) t.candidates answer offsets distances offsets' distances'

@@ -1,3 +1,2 @@
 -- What the contracts of entry_search cite.
-pub mod Refused
 pub mod Finished

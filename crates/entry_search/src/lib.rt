@@ -5,27 +5,15 @@ ghost use Rattle.std.specs.Prelude.{◌≡◌};
 ghost use Rattle.meaning_filter.specs.declared.Pick.{Pick};
 ghost use Rattle.meaning_entries.specs.Search.{lent_search, search_buffers, picking};
 ghost use Rattle.meaning_entries.specs.Demand2.{SearchKept};
-ghost use Rattle.entry_search.specs.Refused.{refused_as};
 ghost use Rattle.entry_search.specs.Finished.{FinishReady, Finished};
 
 use candidate_find::{Sought, find_candidates};
 use check_answer::find_matches;
-use meaning_entries::Found;
+use meaning_entries::{Found, Refusal};
 use meaning_filter::{Ask, Pick};
 use meaning_rows::{Head, Row};
-use refusals::Refusal;
 
-// What a search answers that a plan refuses.
-pub fn refuse(r: Refusal) -> Found
-    ensures { result ≡ refused_as r }
-{
-    Found::Refused {
-        number: r.number,
-        place: r.place,
-    }
-}
-
-// The end of a search: what refused it; or the candidates are checked, the matches listed, and that is answered. The candidates stay as they are.
+// The end of a search that looked: the candidates found are checked, the matches listed, and that is answered. The candidates stay as they are.
 pub fn finish(
     sought: Sought,
     ask: Ask,
@@ -36,13 +24,9 @@ pub fn finish(
     offsets: &mut [u32],
     distances: &mut [u64],
 ) -> Found
-    requires { sought.refusal.number ≡ 0 → FinishReady ask series.now query.now sought first.now last.now offsets.old distances.old }
+    requires { FinishReady ask series.now query.now sought first.now last.now offsets.old distances.old }
     ensures { Finished ask series.now query.now sought first.now last.now offsets.old distances.old result offsets.new distances.new }
 {
-    let r = sought.refusal;
-    if r.number != 0 {
-        return refuse(r);
-    }
     find_matches(
         ask,
         series,
@@ -70,33 +54,33 @@ pub fn search(
     scratch: &mut [u16],
     offsets: &mut [u32],
     distances: &mut [u64],
-) -> Found
+) -> Result<Found, Refusal>
     ensures { SearchKept (lent_search series.now head rows.now left.now right.now ask query.now) (search_buffers first.old last.old scratch.old offsets.old distances.old) result (search_buffers first.new last.new scratch.new offsets.new distances.new) }
 {
     let sought = find_candidates(
         series, head, rows, left, right, ask, query, first, last, scratch, offsets, distances,
-    );
-    finish(sought, ask, series, query, first, last, offsets, distances)
+    )?;
+    Ok(finish(sought, ask, series, query, first, last, offsets, distances))
 }
 
 // What is asked, but for the closest few (02, item 2).
 pub fn pick_closest(ask: Ask, count: u32) -> Ask
     ensures { result ≡ picking (Pick.Closest count) ask }
 {
-    let kind = ask.kind;
-    let limits = ask.limits;
-    let pick = Pick::Closest { count: count };
-    Ask { kind, limits, pick }
+    Ask {
+        pick: Pick::Closest { count },
+        ..ask
+    }
 }
 
 // What is asked, but for all matches.
 pub fn pick_all(ask: Ask) -> Ask
     ensures { result ≡ picking Pick.All ask }
 {
-    let kind = ask.kind;
-    let limits = ask.limits;
-    let pick = Pick::All;
-    Ask { kind, limits, pick }
+    Ask {
+        pick: Pick::All,
+        ..ask
+    }
 }
 
 // The closest few (02, item 2): of all matches the `count` of least distance, equal distances by earlier offset; whatever `ask` picks.
@@ -114,7 +98,7 @@ pub fn closest(
     scratch: &mut [u16],
     offsets: &mut [u32],
     distances: &mut [u64],
-) -> Found
+) -> Result<Found, Refusal>
     ensures { SearchKept (lent_search series.now head rows.now left.now right.now (picking (Pick.Closest count) ask) query.now) (search_buffers first.old last.old scratch.old offsets.old distances.old) result (search_buffers first.new last.new scratch.new offsets.new distances.new) }
 {
     let few = pick_closest(ask, count);
