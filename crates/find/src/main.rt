@@ -9,15 +9,12 @@ use meaning_curves::{LONGEST_QUERY, MOST_PROGRAM_VALUES};
 use program_input::{Input, begin, read_piece};
 use program_print::finish;
 use std::io::{Read, Stdin};
+use std::ops::ControlFlow;
 
-// There may be more to read, or the input is over.
-#[derive(Clone, Copy)]
-enum Step {
-    More(Input),
-    Over(Input),
-}
+// How many pieces are read at most: as many as no run uses up, and at 65,536 bytes each no more bytes than can be counted.
+const PIECES: u64 = 70368744177663;
 
-// The first `n` bytes of a buffer, which a read filled so far, are read on. The input is over where there is none.
+// The first `n` bytes of a buffer, which a read filled so far, are read on. Reading breaks off where there is none, since the input is over.
 fn take_read(
     r: Input,
     buf: &[u8],
@@ -25,15 +22,15 @@ fn take_read(
     numbers: &mut [i64],
     series: &mut [i32],
     query: &mut [i32],
-) -> Step
+) -> ControlFlow<Input, Input>
     requires { Open r 65536 × (n ≤ length buf.now) × (n ≤ 65536) }
     ensures { StepFrom (take n buf.now) r numbers.old series.old query.old result numbers.new series.new query.new }
 {
     let x = read_piece(r, &buf[..n], numbers, series, query);
     if n == 0 {
-        return Step::Over(x);
+        return ControlFlow::Break(x);
     }
-    Step::More(x)
+    ControlFlow::Continue(x)
 }
 
 // Reads the next piece of standard input; a read that fails brings none.
@@ -43,7 +40,7 @@ fn read_on(
     numbers: &mut [i64],
     series: &mut [i32],
     query: &mut [i32],
-) -> Step
+) -> ControlFlow<Input, Input>
     requires { Open r 65536 }
     ensures { Stepped r numbers.old series.old query.old result numbers.new series.new query.new }
 {
@@ -52,7 +49,7 @@ fn read_on(
     take_read(r, &buf, n, numbers, series, query)
 }
 
-// Reads all of standard input, in as many pieces as no run uses up.
+// Reads all of standard input, piece by piece.
 fn read_all(
     source: &mut Stdin,
     r: Input,
@@ -64,16 +61,10 @@ fn read_all(
     ensures { ReadTo 0 result numbers.new series.new query.new }
 {
     let mut x = r;
-    let mut turns: u64 = 70368744177663;
-    while 0 < turns {
+    for _ in 0..PIECES {
         match read_on(source, x, numbers, series, query) {
-            Step::More(y) => {
-                x = y;
-                turns -= 1;
-            }
-            Step::Over(y) => {
-                return y;
-            }
+            ControlFlow::Continue(y) => x = y,
+            ControlFlow::Break(y) => return y,
         }
     }
     x

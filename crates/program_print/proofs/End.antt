@@ -1,20 +1,21 @@
 -- The end of the input: what refuses is printed (`refused_end`), and where nothing does, what was read is what the program was asked (`call-free`), and what it prints then is what document 01 says (`printed-end`).
 use Prim.Native.Nat.{ℕ, ◌+◌, ◌<◌, ◌^◌}
-use lib.Dec.{T}
 use lib.IntN.{ℤ}
 use lib.ListN.{length, take}
 use lib.Seq.{take-append_seam}
 use mathlib.Core.List.{List}
-use mathlib.Core.Path.{◌≡◌, sym, ap, ◌∙◌, subst}
+use mathlib.Core.Path.{◌≡◌, refl, sym, ap, ◌∙◌, subst}
 use native.Mathlib.Omega.{arith}
+use Rattle.std.specs.Prelude.{Ok, Err}
 use Rattle.meaning_text.specs.Texts.{refused_text}
 use Rattle.meaning_entries.specs.Program.{ProgramCall, call_lines, program_table, printed, program}
-use Rattle.meaning_entries.proofs.Refused.{AllPass, passed_is, open_lines, passed-line, lacks, passed-behind}
-use Rattle.refusals.specs.{declared.Refusal.Refusal, Refusal.refusal_of, Refusal.passes, Refusal.refuses}
+use Rattle.meaning_entries.proofs.Refused.{AllPass, passed_is, open_lines, passed-line, passed-behind}
+use Rattle.meaning_entries.specs.declared.Refusal.{Refusal}
+use Rattle.refusals.specs.Refusal.{verdict, passes, refuses}
 use Rattle.text_put.specs.Put.{Put}
 use Rattle.text_put.proofs.Put.{put-room, put-length}
 use Rattle.text_feed.specs.declared.Progress.{Progress}
-use Rattle.program_input.specs.Tables.{numbers_at, end_table, SoundEnd, asked_of, call_of, values_table, numbers_table, call_table}
+use Rattle.program_input.specs.Tables.{numbers_at, end_table, SoundEnd, asked_of, call_of}
 use Rattle.program_input.specs.{declared.Input.Input, Input.Stands}
 use Rattle.program_input.proofs.Says.{stands-sound, end_is, Given, asked_is}
 use Rattle.program_answer.specs.Finish.{Prints, Reached, Finishes}
@@ -24,17 +25,17 @@ pub sound-here : (r : Input) (numbers series query : List ℤ) → Reached r num
 sound-here r numbers series query h = stands-sound _ _ _ r numbers series query h.stands 0 h.opened (omega arith)
 
 -- a refusal
-pub refused_end : (r : Input) (numbers series query : List ℤ) (w : Refusal) (old new : List ℕ) (to : ℕ) → w ≡ refusal_of (end_table r numbers query) → (w.number ≡ 0 → ⊥) → w.number < 2 ^ 32 → w.place < 2 ^ 64
+pub refused_end : (r : Input) (numbers series query : List ℤ) (w : Refusal) (old new : List ℕ) (to : ℕ) → Err w ≡ verdict (end_table r numbers query) → w.number < 2 ^ 32 → w.place < 2 ^ 64
     → length old ≡ 1048576 → Put old 0 (refused_text w.number w.place) new to → Finishes r numbers series query new to
 unfolding program
-refused_end r numbers series query w old new to e f n p long put =
+refused_end r numbers series query w old new to e n p long put =
     let room = refused-size w.number w.place n p in
     let z = put-room put (omega arith) in
     let l = put-length put in
     record {
       within = omega (arith, l);
       is = λ kept asked t hk ha s.
-          let g = refuses _ (e ∙ end_is kept asked t r numbers series query s (omega (arith, ha))) f in
+          let g = refuses (program_table t) (e ∙ end_is kept asked t r numbers series query s (omega (arith, ha))) refl in
           let text = refused_text w.number w.place in
           let o : 0 + length text ≡ length text = omega arith in
           let b : take to new ≡ text = rw (z.1, z.0, o) (take-append_seam text _) in
@@ -44,18 +45,9 @@ refused_end r numbers series query w old new to e f n p long put =
 
 -- ---- nothing refuses
 
-end-lacks : (r : Input) (numbers query : List ℤ) → T (lacks 0 (end_table r numbers query))
-unfolding open_lines lacks end_table call_table values_table numbers_table
-end-lacks (Input.Failed line) numbers query = tt
-end-lacks (Input.Going p line) numbers query = tt
-
-program-lacks : (t : List ℕ) → T (lacks 0 (program_table t))
-unfolding open_lines lacks call_lines program_table
-program-lacks t = tt
-
-module _ (r : Input) (numbers series query : List ℤ) (w : Refusal) (e : w ≡ refusal_of (end_table r numbers query)) (z : w.number ≡ 0) where
+module _ (r : Input) (numbers series query : List ℤ) (e : Ok tt ≡ verdict (end_table r numbers query)) where
   free : AllPass (end_table r numbers query)
-  free = passes _ (end-lacks r numbers query) e z
+  free = passes (end_table r numbers query) e refl
 
   pub not-failed : {line : ℕ} {B : Type 0} → r ≡ Input.Failed line → B
   unfolding open_lines end_table
@@ -67,7 +59,7 @@ module _ (r : Input) (numbers series query : List ℤ) (w : Refusal) (e : w ≡ 
       given = asked_is kept asked t p line numbers series query (rw g at s) (omega arith) (omega arith) (rw g at free)
 
       program-free : AllPass (program_table t)
-      program-free = passes _ (program-lacks t) (e ∙ end_is kept asked t r numbers series query s (omega arith)) z
+      program-free = passes (program_table t) (e ∙ end_is kept asked t r numbers series query s (omega arith)) refl
 
     pub given-here : (h : Reached r numbers series query) → Given h.kept h.asked h.text p numbers series query
     given-here h = given _ _ _ h.long h.short h.stands

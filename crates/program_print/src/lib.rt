@@ -14,23 +14,16 @@ pub fn finish(r: Input, numbers: &[i64], series: &[i32], query: &[i32], text: &m
     requires { (InputHeld r numbers.now series.now query.now) × (length text.old ≡ 1048576) }
     ensures { Finishes r numbers.now series.now query.now text.new result }
 {
-    let w = refuse(r, numbers, query);
-    if w.number != 0 {
-        return write_refused(text, 0, w.number, w.place);
-    }
-    match r {
-        Input::Failed(_) => 0,
-        Input::Going(p, _) => {
-            let v = p.series;
-            let q = p.query;
-            let n = v.count;
-            let m = q.count;
-            print_answer(
-                &series[..n],
-                &query[..m],
+    match refuse(r, numbers, query) {
+        Err(w) => write_refused(text, 0, w.number, w.place),
+        Ok(()) => match r {
+            Input::Failed(_) => 0,
+            Input::Going(p, _) => print_answer(
+                &series[..p.series.count],
+                &query[..p.query.count],
                 asked_of(numbers_of(numbers)),
                 text,
-            )
-        }
+            ),
+        },
     }
 }

@@ -1,5 +1,5 @@
 -- `main`: it is safe, and each function that it calls is given what it asks (`starts`, `ends`).
-use Rattle.meaning_numbers.proofs.Prelude.{rules, pos, length-replicate, arith}
+use Rattle.meaning_numbers.proofs.Prelude.{pos, length-replicate, arith}
 use Rattle.find.proofs as own
 use own.Reading.{starts}
 use Rattle.find.proofs.main.Goals as goal

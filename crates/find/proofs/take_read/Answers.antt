@@ -1,5 +1,5 @@
 -- `take_read`: the piece has a byte, or none.
-use Rattle.meaning_numbers.proofs.Prelude.{rules, length-take, arith}
+use Rattle.meaning_numbers.proofs.Prelude.{length-take, arith}
 use Rattle.find.proofs as own
 use own.Reading.{open-less}
 use Rattle.find.proofs.take_read.Goals as goal
