@@ -1,7 +1,7 @@
 -- What stands in the index_buffers once the parts of a build's rows are filled is its index (`finished`).
 use Rattle.meaning_numbers.specs.Sum.{Σℕ}
 use Rattle.meaning_numbers.proofs.Sum.{Σℕ-same, Σℕ-more}
-use Rattle.meaning_numbers.proofs.Prelude.{◌≡◌, sym, ap, ◌∙◌, List, [], ◌∷◌, ◌++◌, map, ℕ, zero, ◌+◌, ◌-◌, ◌<◌, ◌≤◌, arith, ℤ, nat_abs, length, get_or, take, replicate, length-append, length-map, List·get_d-append, take-append_seam}
+use Rattle.meaning_numbers.proofs.Prelude.{◌≡◌, sym, ap, ◌∙◌, List, [], ◌∷◌, ◌++◌, map, ℕ, ◌+◌, ◌-◌, ◌<◌, ◌≤◌, arith, ℤ, nat_abs, length, get_or, take, replicate, length-append, length-map, List·get_d-append, take-append_seam}
 use Rattle.meaning_curves.specs.Curve.{window_sum}
 use Rattle.meaning_rows.specs.{declared.Row.Row, Runs.runs, Runs.run_count, Index.RangeRow, Index.records, Index.all_runs, Build.SetRow, Build.entry, Build.with_runs, Build.built_rows, Build.built}
 use Rattle.meaning_rows.proofs.{Build.merged_rows, Build.built-runs, Laid.length-records, LaidAt.records-at, LaidAt.runs-total, LaidAt.column-at}
@@ -14,7 +14,6 @@ use Rattle.build_lay.specs.Laid.{Cleared}
 use Rattle.build_fill.specs.{Pass.part_start, Pass.parts_total, Pass.filling-start, Pass.Passable, Pass.PassMade, Turn.At}
 use Rattle.build_passes.specs.Filled.{Fillable, Holds}
 use Rattle.build_passes.proofs.Rowed.{no_row, tests, built-rowed}
-use Rattle.meaning_rows.proofs.Columns as Columns
 
 -- where no row is laid out, a record of zeros stands first
 no_part : {X : Type 0} (G : X → RangeRow) (old : List Row) → let r = get_or (filled zero_row (records 0 (map G [])) old) 0 zero_row in r.first + r.runs ≡ length (all_runs (map G []))

@@ -6,7 +6,6 @@ use Rattle.meaning_rows.proofs.Build.{merged_rows}
 use Rattle.meaning_entries.specs.Buffers.{IndexBuffers, index_in}
 use Rattle.sums_slide.specs.Levels.{Lent, windows_of}
 use Rattle.rows_pack.specs.PackedAs.{PackedAs}
-use Rattle.meaning_rows.proofs.Columns as Columns
 
 -- the rows of a build of row width d and merge percentage g are packed in `rows`, and there is room for their runs
 pub record Fillable (d g : ℕ) (s : List ℤ) (w e : ℕ) (rows : List Row) (n : ℕ) (left right : List ℕ) : Type 0 where

@@ -7,7 +7,7 @@ use Rattle.sums_slide.proofs.Levels.{sum_is}
 use Rattle.rows_find.specs.Search.{Reached, FoundRow}
 use Rattle.build_fill.specs.Turn.{At}
 use Rattle.build_fill.proofs.Turn.{sum-asked}
-use Rattle.build_fill.proofs.Pass.{rowed-climbs, rowed-reached, going-starts, going-ends, going-asks, going-nears, going_next}
+use Rattle.build_fill.proofs.Pass.{rowed-climbs, rowed-reached, going-asks, going-nears, going_next}
 use Rattle.build_fill.proofs.fill_parts.Goals as goal
 
 -- the sum of a placed window, as the machine reads it
@@ -17,9 +17,6 @@ sum-read at {z} f h q = to_z-of_z w32 z f ∙ q ∙ sum_is at h.lent h.sum
 -- the row found of the sum as the machine reads it is that of the window's sum
 row-found : {s : List ℤ} {w e n : ℕ} {rows : List Row} {r : Row} (at : Window) {z : ℤ} → SFits w32 z → At s w e at → z ≡ sum_at w e at → FoundRow rows n (to_z w32 (of_z w32 z)) r → FoundRow rows n (window_sum s w at.offset) r
 row-found {n = n} {rows = rows} {r = r} at f h q = subst (λ (y : ℤ). FoundRow rows n y r) (sum-read at f h q)
-
-pub loop-at-init : goal.loop-at-init
-loop-at-init g c = going-starts c.requires
 
 pub sum_of-sum-requires : goal.sum_of-sum-requires
 sum_of-sum-requires g c = sum-asked c.loop-at.invariant.place
@@ -46,6 +43,3 @@ pub loop-at-preserved : goal.loop-at-preserved
 loop-at-preserved g c =
     let k = c.loop-at.invariant in
     going_next c.requires c.loop-at.at _ _ k c.loop-at-test.true (row-found c.loop-at.at (search rules) k.place c.sum_of-sum.ensures c.find_record-r.ensures) c.file_turn-at.ensures
-
-pub returns : goal.returns
-returns g c = going-ends c.requires c.loop-at.at _ _ c.loop-at.invariant c.loop-at-test.false

@@ -1,6 +1,6 @@
 -- A turn reads the next record, joins it to the group or closes the group, and writes the group's record to its place.
 use Rattle.meaning_numbers.proofs.Prelude.{rules, ◌<◌, length, arith}
-use Rattle.build_merge.proofs.Turn.{started, last_fits, ended, able, in_place, turned}
+use Rattle.build_merge.proofs.Turn.{started, ended, able, in_place, turned}
 use Rattle.build_merge.proofs.merge_rows.Goals as goal
 
 pub loop-i-init : goal.loop-i-init
@@ -19,9 +19,6 @@ bounds-rows-m c = omega (arith, in_place _ _ _ _ _ c.requires c.loop-i.invariant
 
 pub loop-i-preserved : goal.loop-i-preserved
 loop-i-preserved c = turned _ _ _ _ _ c.requires c.loop-i.invariant c.loop-i-test.true c.merge_row-m.ensures
-
-pub overflow_add-result : goal.overflow_add-result
-overflow_add-result c = omega (arith, last_fits _ _ _ _ _ c.requires c.loop-i.invariant)
 
 pub returns : goal.returns
 returns c = ended _ _ _ _ _ c.requires c.loop-i.invariant c.loop-i-test.false

@@ -4,11 +4,6 @@ use Rattle.build_names.specs.Places.{name_for}
 use Rattle.build_names.proofs.Named.{place_is}
 use Rattle.build_names.proofs.name_at.Goals as goal
 
-pub name_of-requires : goal.name_of-requires
-name_of-requires c =
-    let h = c.requires in
-    (h.some, h.most, h.offset-small)
-
 pub returns : goal.returns
 returns c =
     let fits : SFits w32 c.sum_of-sum.result = search rules in

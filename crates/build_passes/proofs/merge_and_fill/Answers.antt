@@ -4,21 +4,6 @@ use Rattle.build_passes.specs.Filled.{MergedAs}
 use Rattle.build_passes.proofs.Filled.{holds_same, rows-counted}
 use Rattle.build_passes.proofs.merge_and_fill.Goals as goal
 
-pub merge_some-k-requires : goal.merge_some-k-requires
-merge_some-k-requires g c = rw c.requires.0.0 c.requires.1
-
-pub fill_rows-requires : goal.fill_rows-requires
-fill_rows-requires g c =
-    let a = c.requires.1.0 in
-    rw (c.requires.0.0, c.requires.0.1) (record {
-      lent = a.lent;
-      least = a.least;
-      most = a.most;
-      packed = rw c.requires.0.0 at c.merge_some-k.ensures;
-      in_left = omega arith;
-      in_right = omega arith;
-    })
-
 pub returns-clause-merged : goal.returns-clause-merged
 returns-clause-merged g c =
     let a = c.args in
