@@ -8,6 +8,6 @@ pub use entry_extend::extend;
 pub use entry_read::read;
 pub use entry_search::{closest, search};
 pub use entry_write::write;
-pub use meaning_entries::{Audited, Both, Built, Extended, Found, Loaded, Written};
+pub use meaning_entries::{Audited, Both, Found, Held, Reason, Refusal};
 pub use meaning_filter::{Ask, Kind, Limits, Pick};
 pub use meaning_rows::{Head, Row};
