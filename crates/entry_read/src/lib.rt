@@ -85,20 +85,17 @@ fn put_runs(
     let mut last = l;
     let mut n = k + 1;
     let mut i = at;
-    loop {
-        let q = plain_run(text, i);
-        if q == 0 {
-            return Stored {
-                left: last,
-                count: n,
-                at: i,
-            };
-        }
+    while let Some(q) = plain_run(text, i) {
         last = run_left(q);
         put(left, n, last);
         put(right, n, run_right(q));
         n += 1;
         i += run_length(q);
+    }
+    Stored {
+        left: last,
+        count: n,
+        at: i,
     }
 }
 

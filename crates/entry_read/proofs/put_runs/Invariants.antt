@@ -6,8 +6,8 @@ use Rattle.text_event.specs.Event.{RunsFrom}
 use Rattle.entry_read.specs.Runs.{tell_columns}
 use Rattle.entry_read.proofs.put_runs.Given as goal
 
-abbrev pub invariant-loop-at : goal.invariant-loop-at
-invariant-loop-at l = (l.n ≤ l.i) × (l.i ≤ length l.text) × RunsFrom tell_columns l.text (record { left = l.initial.last; count = l.initial.n; lefts = l.initial.left; rights = l.initial.right }) l.initial.i (record { left = l.last; count = l.n; lefts = l.left; rights = l.right }) l.i × (length l.left ≡ length l.initial.left) × (length l.right ≡ length l.initial.right)
+abbrev pub invariant-loop-q : goal.invariant-loop-q
+invariant-loop-q l = (l.n ≤ l.i) × (l.i ≤ length l.text) × RunsFrom tell_columns l.text (record { left = l.initial.last; count = l.initial.n; lefts = l.initial.left; rights = l.initial.right }) l.initial.i (record { left = l.last; count = l.n; lefts = l.left; rights = l.right }) l.i × (length l.left ≡ length l.initial.left) × (length l.right ≡ length l.initial.right)
 
-abbrev pub decreases-loop-at : goal.decreases-loop-at
-decreases-loop-at l = length l.text - l.i
+abbrev pub decreases-loop-q : goal.decreases-loop-q
+decreases-loop-q l = length l.text - l.i
