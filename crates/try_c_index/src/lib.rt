@@ -41,6 +41,7 @@ pub fn numbers(kind: u32, first: usize, second: usize) -> Answer
 }
 
 // What an audit answers: 0 yes; 1 the row and offset filed wrongly; 2 how many windows stand nowhere; 3 the refusal's number and place.
+#[tactic(auto, unfolding(crate::specs::Told::told_audited))]
 fn tell_audited(answer: Result<Audited, Refusal>) -> Answer
     ensures { result ≡ told_audited answer }
 {
@@ -60,6 +61,7 @@ pub fn index_audit(series: &[i32], head: Head, rows: &[Row], left: &[u32], right
 }
 
 // What a build, an extension or a reading answers: 0 the index's head, and how many rows and runs it has; 3 the refusal's number and place.
+#[tactic(auto, unfolding(crate::specs::Told::told_built))]
 pub fn tell_built(answer: Result<Held, Refusal>) -> Answer
     ensures { result ≡ told_built answer }
 {
