@@ -42,7 +42,11 @@ fn print_head(rt: &impl Print, count: usize, candidates: usize, matches: usize) 
 
 fn print_list(rt: &impl Print, offsets: &[u32], distances: &[u64], listed: usize) -> IoResult<()> {
     for k in 0..listed {
-        println!(rt; "  at {}, distance {}", get_offset(offsets, k), get(distances, k))?;
+        println!(rt;
+            "  at {}, distance {}",
+            get_offset(offsets, k),
+            get(distances, k)
+        )?;
     }
     Ok(())
 }
@@ -55,10 +59,12 @@ fn print_found(
     distances: &[u64],
 ) -> IoResult<()> {
     match answer {
-        Ok(Found::Few {
-            candidates,
-            matches,
-        }) => {
+        Ok(
+            Found::Few {
+                candidates,
+                matches,
+            },
+        ) => {
             let count = count as usize;
             print_head(rt, count, candidates, matches)?;
             print_list(rt, offsets, distances, count.min(matches))

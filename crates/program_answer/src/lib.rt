@@ -31,10 +31,12 @@ pub fn put_found(
     ensures { FoundPut answer text.old at offsets.now distances.now text.new result }
 {
     match answer {
-        Ok(Found::All {
-            candidates,
-            matches,
-        }) => write_found(text, at, matches, candidates, offsets, distances),
+        Ok(
+            Found::All {
+                candidates,
+                matches,
+            },
+        ) => write_found(text, at, matches, candidates, offsets, distances),
         _ => at,
     }
 }

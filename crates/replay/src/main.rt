@@ -90,7 +90,11 @@ fn print_match(
     m: usize,
     indexed: usize,
 ) -> IoResult<()> {
-    println!(rt; "  at {offset}, distance {distance}, {} of its {} newer than the index", newer(offset, m, indexed), prices(m))
+    println!(rt;
+        "  at {offset}, distance {distance}, {} of its {} newer than the index",
+        newer(offset, m, indexed),
+        prices(m)
+    )
 }
 
 // ---- the list of a search
@@ -252,13 +256,23 @@ fn tell(
     };
     print!(rt; "{}: ", prices(n))?;
     match answer {
-        Ok(Found::All {
-            candidates,
-            matches,
-        }) => {
+        Ok(
+            Found::All {
+                candidates,
+                matches,
+            },
+        ) => {
             let same = scan_finds(s, series, query, offsets, distances, matches);
             print_step(rt, matches, candidates, same)?;
-            print_new(rt, offsets, distances, matches, query.len(), t.told, s.indexed)?;
+            print_new(
+                rt,
+                offsets,
+                distances,
+                matches,
+                query.len(),
+                t.told,
+                s.indexed,
+            )?;
             Ok(Turn {
                 told: n,
                 same: t.same.wrapping_add(same as u64),

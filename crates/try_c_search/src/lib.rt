@@ -91,18 +91,24 @@ fn tell_found(answer: Result<Found, Refusal>) -> Answer
     ensures { result ≡ told_found answer }
 {
     match answer {
-        Ok(Found::All {
-            candidates,
-            matches,
-        }) => numbers(0, candidates, matches),
-        Ok(Found::Full {
-            candidates,
-            matches,
-        }) => numbers(1, candidates, matches),
-        Ok(Found::Few {
-            candidates,
-            matches,
-        }) => numbers(2, candidates, matches),
+        Ok(
+            Found::All {
+                candidates,
+                matches,
+            },
+        ) => numbers(0, candidates, matches),
+        Ok(
+            Found::Full {
+                candidates,
+                matches,
+            },
+        ) => numbers(1, candidates, matches),
+        Ok(
+            Found::Few {
+                candidates,
+                matches,
+            },
+        ) => numbers(2, candidates, matches),
         Err(r) => numbers(3, r.number as usize, r.place),
     }
 }

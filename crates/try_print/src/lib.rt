@@ -77,5 +77,7 @@ pub fn print_refused(rt: &impl Print, r: Refusal) -> std::io::Result<()> {
 
 // `not` says what is not done.
 pub fn print_too_much(rt: &impl Print, not: &str) -> std::io::Result<()> {
-    println!(rt; "{not}: more than {MOST_PROGRAM_VALUES} prices, a query of more than {LONGEST_QUERY} values, or more than 65535 bytes")
+    println!(rt;
+        "{not}: more than {MOST_PROGRAM_VALUES} prices, a query of more than {LONGEST_QUERY} values, or more than 65535 bytes"
+    )
 }

@@ -84,18 +84,24 @@ fn agree_told(nums: &[u64], at: usize, kind: u64, first: usize, second: usize) -
 // An answer: 0 and both counts; 1, both counts and a full list; 3 and the refusal's number and place.
 fn agree_found(answer: Result<Found, Refusal>, nums: &[u64], at: usize) -> bool {
     match answer {
-        Ok(Found::All {
-            candidates,
-            matches,
-        }) => agree_told(nums, at, 0, candidates, matches),
-        Ok(Found::Full {
-            candidates,
-            matches,
-        }) => agree_told(nums, at, 1, candidates, matches),
-        Ok(Found::Few {
-            candidates,
-            matches,
-        }) => agree_told(nums, at, 2, candidates, matches),
+        Ok(
+            Found::All {
+                candidates,
+                matches,
+            },
+        ) => agree_told(nums, at, 0, candidates, matches),
+        Ok(
+            Found::Full {
+                candidates,
+                matches,
+            },
+        ) => agree_told(nums, at, 1, candidates, matches),
+        Ok(
+            Found::Few {
+                candidates,
+                matches,
+            },
+        ) => agree_told(nums, at, 2, candidates, matches),
         Err(r) => agree_told(nums, at, 3, r.number as usize, r.place),
     }
 }
@@ -174,7 +180,18 @@ fn search_lent(
     let pick = Pick::All;
     let ask = Ask { kind, limits, pick };
     let answer = search(
-        series, head, &rows[..n], left, right, ask, query, first, last, scratch, offsets, distances,
+        series,
+        head,
+        &rows[..n],
+        left,
+        right,
+        ask,
+        query,
+        first,
+        last,
+        scratch,
+        offsets,
+        distances,
     );
     agree_found(answer, nums, p.answer)
         && agree_offsets(first, nums, p.first)
