@@ -87,6 +87,7 @@ fn numbers(kind: u32, first: usize, second: usize) -> Answer
 }
 
 // What a search answers.
+#[tactic(auto, unfolding(crate::specs::Told::told_found))]
 fn tell_found(answer: Result<Found, Refusal>) -> Answer
     ensures { result ≡ told_found answer }
 {
