@@ -1,12 +1,12 @@
 -- The index and the list in the text buffer, where nothing refuses the program (`prints`).
 use Rattle.meaning_numbers.proofs.Between.{within-yes}
-use Rattle.std.specs.{Prelude.Ok, Prelude.Err, Result.result_unwrap_or}
+use Rattle.std.specs.{Prelude.Ok, Prelude.Err, Prelude.Some, Prelude.Option, Result.result_unwrap_or}
 use Rattle.meaning_numbers.proofs.Prelude.{◌≡◌, refl, sym, ap, ◌∙◌, subst, not, ◌||◌, List, ℕ, ◌≤◌, arith, ℤ, pos, length, take, lt_z, zarith, not-not, neither}
 use Rattle.meaning_curves.specs.Limits.{window_in}
 use Rattle.meaning_rows.specs.{declared.Row.Row, declared.Head.Head, Index.Index, Index.lent}
 use Rattle.meaning_filter.specs.declared.Pick.{Pick}
 use Rattle.meaning_text.specs.Texts.{index_text, found_text}
-use Rattle.meaning_entries.specs.{Answers.Built, Answers.Written, Answers.held, Answers.held_counts, declared.Refusal.Refusal, Answers.head_of, Answers.written_count, Build.lent_build, Write.write_count, Write.write_after, Search.SearchCall, Search.lent_search, Search.search_matches, Search.search_candidates, Program.call_lines, Program.printed, Demand2.BuildKept, Demand2.WriteKept, Buffers.index_buffers}
+use Rattle.meaning_entries.specs.{Answers.Built, Answers.Written, Answers.held, Answers.held_head, Answers.held_counts, declared.Refusal.Refusal, Answers.head_of, Answers.written_count, Build.lent_build, Write.write_count, Write.write_after, Search.SearchCall, Search.lent_search, Search.search_matches, Search.search_candidates, Program.call_lines, Program.printed, Demand2.BuildKept, Demand2.WriteKept, Buffers.index_buffers}
 use Rattle.meaning_entries.proofs.{Refused.AllPass, Refused.open_lines, Refused.passed-line, Refused.not-if, Made.build-most}
 use Rattle.program_input.specs.{declared.Asked.Asked, Tables.call_of}
 use Rattle.program_answer.specs.Finish.{Listed, Prints}
@@ -42,7 +42,7 @@ module _ (s q : List ℤ) (a : Asked) (free : AllPass (call_lines (call_of s q a
       index_same = sym e ∙ answered
 
       head-is : head ≡ head_of y
-      head-is = let g = index_same in cc
+      head-is = let g : ◌≡◌ {A = Option Head} (Some head) (Some (head_of y)) = ap held_head index_same in cc
 
       rows_are : n ≡ length y.rows
       rows_are = ap (λ (b : Built). (held_counts b).0) index_same
