@@ -25,6 +25,7 @@ pub extern "C" fn text_read(
 }
 
 // What a writing answers: 0 the text's length; 3 the refusal's number and place.
+#[tactic(auto, unfolding(crate::specs::Told::told_written))]
 fn tell_written(answer: Result<usize, Refusal>) -> Answer
     ensures { result ≡ told_written answer }
 {
