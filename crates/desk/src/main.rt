@@ -11,8 +11,9 @@ use meaning_curves::{LONGEST_QUERY, MOST_PROGRAM_VALUES};
 use meaning_entries::{Found, Refusal};
 use meaning_filter::{Ask, Pick};
 use meaning_rows::{Head, Row};
-use std::io::Result as IoResult;
+use std::fmt::{self, Write};
 use try_c_match::kind_of;
+use try_out::Out;
 use try_print::{Count, get_limits, get_offset, print_refused, print_too_much, read_input};
 use try_vectors::{get, get_small, get_values, plus};
 
@@ -22,14 +23,14 @@ const ROOM: usize = 64;
 // ---- words
 
 // The head of the list: how many of the matches are listed, among how many candidates.
-fn print_head(rt: &impl Print, count: usize, candidates: usize, matches: usize) -> IoResult<()> {
+fn print_head(out: &mut Out, count: usize, candidates: usize, matches: usize) -> fmt::Result {
     if count < matches {
-        print!(rt; "the closest {count} of {matches} matches")?;
+        write!(out, "the closest {count} of {matches} matches")?;
     } else {
         match matches {
-            0 => print!(rt; "no matches")?,
-            1 => print!(rt; "the only match")?,
-            _ => print!(rt; "all {matches} matches")?,
+            0 => write!(out, "no matches")?,
+            1 => write!(out, "the only match")?,
+            _ => write!(out, "all {matches} matches")?,
         }
     }
     let among = Count {
@@ -37,12 +38,13 @@ fn print_head(rt: &impl Print, count: usize, candidates: usize, matches: usize) 
         one: "candidate",
         many: "candidates",
     };
-    println!(rt; ", among {among}")
+    writeln!(out, ", among {among}")
 }
 
-fn print_list(rt: &impl Print, offsets: &[u32], distances: &[u64], listed: usize) -> IoResult<()> {
+fn print_list(out: &mut Out, offsets: &[u32], distances: &[u64], listed: usize) -> fmt::Result {
     for k in 0..listed {
-        println!(rt;
+        writeln!(
+            out,
             "  at {}, distance {}",
             get_offset(offsets, k),
             get(distances, k)
@@ -52,12 +54,12 @@ fn print_list(rt: &impl Print, offsets: &[u32], distances: &[u64], listed: usize
 }
 
 fn print_found(
-    rt: &impl Print,
+    out: &mut Out,
     count: u32,
     answer: Result<Found, Refusal>,
     offsets: &[u32],
     distances: &[u64],
-) -> IoResult<()> {
+) -> fmt::Result {
     match answer {
         Ok(
             Found::Few {
@@ -66,10 +68,10 @@ fn print_found(
             },
         ) => {
             let count = count as usize;
-            print_head(rt, count, candidates, matches)?;
-            print_list(rt, offsets, distances, count.min(matches))
+            print_head(out, count, candidates, matches)?;
+            print_list(out, offsets, distances, count.min(matches))
         }
-        Err(r) => print_refused(rt, r),
+        Err(r) => print_refused(out, r),
         // Not answered where the closest few are asked for.
         _ => Ok(()),
     }
@@ -79,7 +81,7 @@ fn print_found(
 
 // The search through the index, and its list.
 fn search_closest(
-    rt: &impl Print,
+    out: &mut Out,
     ask: Ask,
     count: u32,
     series: &[i32],
@@ -88,7 +90,7 @@ fn search_closest(
     rows: &[Row],
     left: &[u32],
     right: &[u32],
-) -> IoResult<()> {
+) -> fmt::Result {
     let mut first = [0u32; MOST_PROGRAM_VALUES];
     let mut last = [0u32; MOST_PROGRAM_VALUES];
     let mut scratch = [0u16; MOST_PROGRAM_VALUES];
@@ -109,12 +111,12 @@ fn search_closest(
         &mut offsets,
         &mut distances,
     );
-    print_found(rt, count, answer, &offsets, &distances)
+    print_found(out, count, answer, &offsets, &distances)
 }
 
 // The index and the search.
 fn desk(
-    rt: &impl Print,
+    out: &mut Out,
     ask: Ask,
     count: u32,
     window: u32,
@@ -122,7 +124,7 @@ fn desk(
     merge: u32,
     series: &[i32],
     query: &[i32],
-) -> IoResult<()> {
+) -> fmt::Result {
     let mut rows = [Row {
         low: 0,
         up: 0,
@@ -135,11 +137,11 @@ fn desk(
         series, window, width, merge, &mut rows, &mut left, &mut right,
     );
     match made {
-        Err(r) => print_refused(rt, r),
+        Err(r) => print_refused(out, r),
         Ok(index) => {
             let n = index.rows.min(MOST_PROGRAM_VALUES);
             search_closest(
-                rt,
+                out,
                 ask,
                 count,
                 series,
@@ -163,7 +165,7 @@ fn ask_of(nums: &[u64], at: usize) -> Ask {
 }
 
 // The numbers of the input, of which `n` are prices and `m` values of the query.
-fn run(rt: &impl Print, nums: &[u64], n: usize, m: usize) -> IoResult<()>
+fn run(out: &mut Out, nums: &[u64], n: usize, m: usize) -> fmt::Result
     requires { (n ≤ most_program_values) × (m ≤ longest_query) }
 {
     let at = plus(4, n);
@@ -178,7 +180,7 @@ fn run(rt: &impl Print, nums: &[u64], n: usize, m: usize) -> IoResult<()>
     let width = get_small(nums, 1);
     let merge = get_small(nums, 2);
     desk(
-        rt,
+        out,
         ask,
         count,
         window,
@@ -189,9 +191,11 @@ fn run(rt: &impl Print, nums: &[u64], n: usize, m: usize) -> IoResult<()>
     )
 }
 
-fn main(rt: HostRuntime) -> IoResult<()> {
-    match read_input(3) {
-        Some(x) => run(&rt, &x.numbers, x.prices, x.values),
-        None => print_too_much(&rt, "not searched"),
-    }
+fn main() {
+    let mut out = Out;
+    // What can't be printed is lost.
+    let _ = match read_input(3) {
+        Some(x) => run(&mut out, &x.numbers, x.prices, x.values),
+        None => print_too_much(&mut out, "not searched"),
+    };
 }

@@ -11,8 +11,9 @@ use meaning_curves::{LONGEST_QUERY, MOST_PROGRAM_VALUES};
 use meaning_entries::{Found, Reason, Refusal};
 use meaning_filter::{Ask, Limits, Pick};
 use meaning_rows::{Head, Row};
-use std::io::Result as IoResult;
+use std::fmt::{self, Write};
 use try_c_match::{curve_matches, kind_of};
+use try_out::Out;
 use try_print::{Count, get_limits, get_offset, print_refused, print_too_much, read_input};
 use try_vectors::{get, get_length, get_small, get_values, plus};
 
@@ -54,16 +55,16 @@ fn prices(n: usize) -> Count<'static> {
     }
 }
 
-fn print_index(rt: &impl Print, head: Head) -> IoResult<()> {
+fn print_index(out: &mut Out, head: Head) -> fmt::Result {
     let windows = Count {
         n: head.windows as usize,
         one: "window",
         many: "windows",
     };
-    println!(rt; "window length {}, {windows}", head.window)
+    writeln!(out, "window length {}, {windows}", head.window)
 }
 
-fn print_step(rt: &impl Print, matches: usize, candidates: usize, same: bool) -> IoResult<()> {
+fn print_step(out: &mut Out, matches: usize, candidates: usize, same: bool) -> fmt::Result {
     let matches = Count {
         n: matches,
         one: "match",
@@ -75,7 +76,7 @@ fn print_step(rt: &impl Print, matches: usize, candidates: usize, same: bool) ->
         many: "candidates",
     };
     let what = if same { "the same" } else { "others" };
-    println!(rt; "{matches} of {candidates}, the scan finds {what}")
+    writeln!(out, "{matches} of {candidates}, the scan finds {what}")
 }
 
 // How many of the `m` prices from `from` on stand behind the first `indexed`.
@@ -84,13 +85,14 @@ fn newer(from: usize, m: usize, indexed: usize) -> usize {
 }
 
 fn print_match(
-    rt: &impl Print,
+    out: &mut Out,
     offset: usize,
     distance: u64,
     m: usize,
     indexed: usize,
-) -> IoResult<()> {
-    println!(rt;
+) -> fmt::Result {
+    writeln!(
+        out,
         "  at {offset}, distance {distance}, {} of its {} newer than the index",
         newer(offset, m, indexed),
         prices(m)
@@ -101,18 +103,18 @@ fn print_match(
 
 // The matches that reach past the first `told` prices.
 fn print_new(
-    rt: &impl Print,
+    out: &mut Out,
     offsets: &[u32],
     distances: &[u64],
     matches: usize,
     m: usize,
     told: usize,
     indexed: usize,
-) -> IoResult<()> {
+) -> fmt::Result {
     for k in 0..matches {
         let offset = get_offset(offsets, k);
         if told < plus(offset, m) {
-            print_match(rt, offset, get(distances, k), m, indexed)?;
+            print_match(out, offset, get(distances, k), m, indexed)?;
         }
     }
     Ok(())
@@ -236,7 +238,7 @@ fn search_step(
 
 // What a search answered, told and held to the scan; one that does not list all matches has nothing to be held to it.
 fn tell(
-    rt: &impl Print,
+    out: &mut Out,
     s: Story,
     series: &[i32],
     query: &[i32],
@@ -244,7 +246,7 @@ fn tell(
     offsets: &[u32],
     distances: &[u64],
     t: Turn,
-) -> IoResult<Turn>
+) -> Result<Turn, fmt::Error>
     requires { length query.now ≤ longest_query }
 {
     let n = series.len();
@@ -254,7 +256,7 @@ fn tell(
         same: t.same,
         tried,
     };
-    print!(rt; "{}: ", prices(n))?;
+    write!(out, "{}: ", prices(n))?;
     match answer {
         Ok(
             Found::All {
@@ -263,9 +265,9 @@ fn tell(
             },
         ) => {
             let same = scan_finds(s, series, query, offsets, distances, matches);
-            print_step(rt, matches, candidates, same)?;
+            print_step(out, matches, candidates, same)?;
             print_new(
-                rt,
+                out,
                 offsets,
                 distances,
                 matches,
@@ -280,19 +282,19 @@ fn tell(
             })
         }
         Ok(Found::Full { .. }) => {
-            print_refused(rt, Refusal::at(Reason::FullList, 0))?;
+            print_refused(out, Refusal::at(Reason::FullList, 0))?;
             Ok(unheld)
         }
         Ok(Found::Few { .. }) => Ok(unheld),
         Err(r) => {
-            print_refused(rt, r)?;
+            print_refused(out, r)?;
             Ok(unheld)
         }
     }
 }
 
 fn step(
-    rt: &impl Print,
+    out: &mut Out,
     s: Story,
     series: &[i32],
     query: &[i32],
@@ -301,7 +303,7 @@ fn step(
     left: &[u32],
     right: &[u32],
     t: Turn,
-) -> IoResult<Turn>
+) -> Result<Turn, fmt::Error>
     requires { length query.now ≤ longest_query }
 {
     let mut offsets = [0u32; MOST_PROGRAM_VALUES];
@@ -317,12 +319,12 @@ fn step(
         &mut offsets,
         &mut distances,
     );
-    tell(rt, s, series, query, answer, &offsets, &distances, t)
+    tell(out, s, series, query, answer, &offsets, &distances, t)
 }
 
 // From the prices of the index on, one more at a time.
 fn steps(
-    rt: &impl Print,
+    out: &mut Out,
     s: Story,
     series: &[i32],
     query: &[i32],
@@ -330,7 +332,7 @@ fn steps(
     rows: &[Row],
     left: &[u32],
     right: &[u32],
-) -> IoResult<Turn>
+) -> Result<Turn, fmt::Error>
     requires { (length series.now ≤ most_program_values) × (length query.now ≤ longest_query) }
 {
     let mut t = Turn {
@@ -339,7 +341,7 @@ fn steps(
         tried: 0,
     };
     for n in s.indexed..series.len() + 1 {
-        t = step(rt, s, &series[..n], query, head, rows, left, right, t)?;
+        t = step(out, s, &series[..n], query, head, rows, left, right, t)?;
     }
     Ok(t)
 }
@@ -347,7 +349,7 @@ fn steps(
 // ---- the program
 
 // The index, the steps, and how many lists were the scan's.
-fn replay(rt: &impl Print, s: Story, series: &[i32], query: &[i32]) -> IoResult<()>
+fn replay(out: &mut Out, s: Story, series: &[i32], query: &[i32]) -> fmt::Result
     requires { (s.indexed ≤ length series.now) × (length series.now ≤ most_program_values) × (length query.now ≤ longest_query) }
 {
     let mut rows = [Row {
@@ -367,20 +369,20 @@ fn replay(rt: &impl Print, s: Story, series: &[i32], query: &[i32]) -> IoResult<
         &mut left,
         &mut right,
     );
-    print!(rt; "index of {}: ", prices(s.indexed))?;
+    write!(out, "index of {}: ", prices(s.indexed))?;
     match made {
-        Err(r) => print_refused(rt, r),
+        Err(r) => print_refused(out, r),
         Ok(index) => {
-            print_index(rt, index.head)?;
+            print_index(out, index.head)?;
             let n = index.rows.min(MOST_PROGRAM_VALUES);
-            let t = steps(rt, s, series, query, index.head, &rows[..n], &left, &right)?;
-            println!(rt; "{} of {} lists are the scan's", t.same, t.tried)
+            let t = steps(out, s, series, query, index.head, &rows[..n], &left, &right)?;
+            writeln!(out, "{} of {} lists are the scan's", t.same, t.tried)
         }
     }
 }
 
 // The numbers of the input, of which `n` are prices and `m` values of the query.
-fn run(rt: &impl Print, nums: &[u64], n: usize, m: usize) -> IoResult<()>
+fn run(out: &mut Out, nums: &[u64], n: usize, m: usize) -> fmt::Result
     requires { (n ≤ most_program_values) × (m ≤ longest_query) }
 {
     let s = story_of(nums, n);
@@ -388,12 +390,14 @@ fn run(rt: &impl Print, nums: &[u64], n: usize, m: usize) -> IoResult<()>
     let mut query = [0i32; LONGEST_QUERY];
     get_values(nums, 5, &mut series);
     get_values(nums, plus(11, n), &mut query);
-    replay(rt, s, &series[..n], &query[..m])
+    replay(out, s, &series[..n], &query[..m])
 }
 
-fn main(rt: HostRuntime) -> IoResult<()> {
-    match read_input(4) {
-        Some(x) => run(&rt, &x.numbers, x.prices, x.values),
-        None => print_too_much(&rt, "not replayed"),
-    }
+fn main() {
+    let mut out = Out;
+    // What can't be printed is lost.
+    let _ = match read_input(4) {
+        Some(x) => run(&mut out, &x.numbers, x.prices, x.values),
+        None => print_too_much(&mut out, "not replayed"),
+    };
 }

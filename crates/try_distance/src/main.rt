@@ -5,6 +5,7 @@ ghost use Rattle.std.specs.Prelude.{◌≤◌};
 
 use try_c_distance::{curve_bound, curve_envelopes, curve_normal, curve_straight, curve_warped};
 use try_c_match::{curve_matches, curve_root, curve_windows};
+use try_groups::{Groups, Step, run_groups};
 use try_vectors::{get, get_length, get_natural, get_small, get_values, plus, read_numbers, value};
 
 // ---- comparing
@@ -223,39 +224,6 @@ fn try_one(
 
 // ---- the vectors, one after the other
 
-// Where the next one is, and how many of the group agree so far.
-#[derive(Clone, Copy)]
-struct Turn {
-    at: usize,
-    agreed: u64,
-    tried: u64,
-}
-
-fn name(group: u64) {
-    match group {
-        0 => io::write_all(1, b"the paper's cases"),
-        1 => io::write_all(1, b"roots"),
-        2 => io::write_all(1, b"straight distances"),
-        3 => io::write_all(1, b"warped distances"),
-        4 => io::write_all(1, b"envelopes"),
-        5 => io::write_all(1, b"envelope bounds"),
-        6 => io::write_all(1, b"spreads"),
-        7 => io::write_all(1, b"normalised values"),
-        8 => io::write_all(1, b"matches of raw queries"),
-        9 => io::write_all(1, b"matches of normalised queries"),
-        _ => io::write_all(1, b"window sums and rows"),
-    };
-}
-
-fn end_group(group: u64, t: Turn) {
-    name(group);
-    io::write_all(1, b": ");
-    io::print_decimal(1, t.agreed);
-    io::write_all(1, b" of ");
-    io::print_decimal(1, t.tried);
-    io::write_all(1, b" agree\n");
-}
-
 // How many stretches of `m` values `n` have.
 fn stretches(n: usize, m: usize) -> usize
     requires { n ≤ 32 }
@@ -304,8 +272,7 @@ fn in_rooms(nums: &[u64], at: usize, test: u64, s: &[i32], q: &[i32], n: usize, 
 }
 
 // The vector at a place.
-fn one_turn(nums: &[u64], t: Turn, test: u64) -> Turn {
-    let from = t.at;
+fn one_vector(nums: &[u64], from: usize, test: u64) -> Step {
     let n = get_length(nums, plus(from, 1), 32);
     let p = plus(from, 2);
     let second = plus(p, n);
@@ -316,39 +283,39 @@ fn one_turn(nums: &[u64], t: Turn, test: u64) -> Turn {
     let mut q = [0i32; 32];
     get_values(nums, p, &mut s);
     get_values(nums, r, &mut q);
-    let good = in_rooms(nums, last, test, &s, &q, n, m);
+    let agrees = in_rooms(nums, last, test, &s, &q, n, m);
     let answers = get_length(nums, plus(last, 4), 32);
-    let one = good as u64;
-    Turn {
-        at: plus(plus(last, 5), answers),
-        agreed: t.agreed.wrapping_add(one),
-        tried: t.tried.wrapping_add(1),
-    }
+    let next = plus(plus(last, 5), answers);
+    Step::Vector { agrees, next }
 }
 
-fn step(nums: &[u64], t: Turn) -> Turn {
-    let from = t.at;
-    let test = get_natural(nums, from);
-    if test == 0 {
-        let group = get_natural(nums, plus(from, 1));
-        end_group(group, t);
-        return Turn {
-            at: plus(from, 2),
-            agreed: 0,
-            tried: 0,
-        };
-    }
-    one_turn(nums, t, test)
-}
+struct Distances;
 
-fn run(nums: &[u64], turns: u64) {
-    let mut t = Turn {
-        at: 0,
-        agreed: 0,
-        tried: 0,
-    };
-    for _ in 0..turns {
-        t = step(nums, t);
+impl Groups for Distances {
+    fn name(group: u64) -> &'static str {
+        match group {
+            0 => "the paper's cases",
+            1 => "roots",
+            2 => "straight distances",
+            3 => "warped distances",
+            4 => "envelopes",
+            5 => "envelope bounds",
+            6 => "spreads",
+            7 => "normalised values",
+            8 => "matches of raw queries",
+            9 => "matches of normalised queries",
+            _ => "window sums and rows",
+        }
+    }
+
+    fn step(nums: &[u64], at: usize) -> Step {
+        match get_natural(nums, at) {
+            0 => Step::End {
+                group: get_natural(nums, plus(at, 1)),
+                next: plus(at, 2),
+            },
+            test => one_vector(nums, at, test),
+        }
     }
 }
 
@@ -357,5 +324,5 @@ fn main() {
     let n = io::read_full(0, &mut text);
     let mut nums = [0u64; 8192];
     read_numbers(&text[..n], &mut nums);
-    run(&nums, 284);
+    let _ = run_groups::<Distances>(&nums, 0, 284);
 }

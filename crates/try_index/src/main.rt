@@ -8,6 +8,7 @@ use entry_build::build;
 use entry_extend::extend;
 use meaning_entries::{Audited, Held, Refusal};
 use meaning_rows::{Head, Row};
+use try_groups::{Groups, Step, run_groups};
 use try_vectors::{
     get_head, get_length, get_natural, get_numbers, get_row, get_small, get_values, plus,
     read_numbers,
@@ -144,13 +145,6 @@ fn agree_audited(answer: Result<Audited, Refusal>, nums: &[u64], at: usize) -> b
 
 // ---- the tests
 
-// Whether a vector agrees, and where the next one is.
-#[derive(Clone, Copy)]
-struct Tried {
-    good: bool,
-    at: usize,
-}
-
 // Every buffer after a build or an extension, where `told` says whether the answer agrees, against those from the place `at` on: the answer, how many rows, these and the row behind them, the two columns of the run buffer.
 fn judge_made(
     told: bool,
@@ -159,7 +153,7 @@ fn judge_made(
     at: usize,
     left: &[u32],
     right: &[u32],
-) -> Tried {
+) -> Step {
     let count = get_length(nums, plus(at, 6), 64);
     let from = plus(at, 7);
     let lefts = row_place(from, plus(count, 1));
@@ -167,14 +161,14 @@ fn judge_made(
     let same = agree_rows(rows, nums, from, count);
     let one = agree_numbers(left, nums, lefts);
     let two = agree_numbers(right, nums, rights);
-    Tried {
-        good: told & same & one & two,
-        at: plus(rights, right.len()),
+    Step::Vector {
+        agrees: told && same && one && two,
+        next: plus(rights, right.len()),
     }
 }
 
 // A build into these columns, by the numbers from the place `at` on.
-fn build_in(nums: &[u64], at: usize, s: &[i32], left: &mut [u32], right: &mut [u32]) -> Tried {
+fn build_in(nums: &[u64], at: usize, s: &[i32], left: &mut [u32], right: &mut [u32]) -> Step {
     let w = get_small(nums, at);
     let d = get_small(nums, plus(at, 1));
     let g = get_small(nums, plus(at, 2));
@@ -188,7 +182,7 @@ fn build_in(nums: &[u64], at: usize, s: &[i32], left: &mut [u32], right: &mut [u
 }
 
 // A build: n, the values; w; d; g; the lengths of the two columns of the run buffer; what is expected.
-fn try_build(nums: &[u64], from: usize) -> Tried {
+fn try_build(nums: &[u64], from: usize) -> Step {
     let n = get_length(nums, from, 320);
     let at = plus(plus(from, 1), n);
     let lefts = get_length(nums, plus(at, 3), 80);
@@ -209,7 +203,7 @@ fn extend_in(
     rights: &[u32],
     left: &mut [u32],
     right: &mut [u32],
-) -> Tried
+) -> Step
     requires { p.rows ≤ 64 }
 {
     let head = get_head(nums, p.head);
@@ -233,7 +227,7 @@ fn extend_in(
 }
 
 // An extension: n, the values; the index; the lengths of the two columns of the fresh run buffer; what is expected.
-fn try_extend(nums: &[u64], from: usize) -> Tried {
+fn try_extend(nums: &[u64], from: usize) -> Step {
     let n = get_length(nums, from, 320);
     let p = find_index(nums, plus(plus(from, 1), n));
     let a = get_length(nums, p.end, 80);
@@ -258,20 +252,20 @@ fn try_extend(nums: &[u64], from: usize) -> Tried {
 }
 
 // The audit of the index at `p`.
-fn audit_in(nums: &[u64], p: Places, s: &[i32], left: &[u32], right: &[u32]) -> Tried
+fn audit_in(nums: &[u64], p: Places, s: &[i32], left: &[u32], right: &[u32]) -> Step
     requires { p.rows ≤ 64 }
 {
     let head = get_head(nums, p.head);
     let table = get_rows(nums, plus(p.head, 4));
     let a = audit(s, head, &table[..p.rows], left, right);
-    Tried {
-        good: agree_audited(a, nums, p.end),
-        at: plus(p.end, 6),
+    Step::Vector {
+        agrees: agree_audited(a, nums, p.end),
+        next: plus(p.end, 6),
     }
 }
 
 // An audit: n, the values; the index; the answer.
-fn try_audit(nums: &[u64], from: usize) -> Tried {
+fn try_audit(nums: &[u64], from: usize) -> Step {
     let n = get_length(nums, from, 320);
     let p = find_index(nums, plus(plus(from, 1), n));
     let mut s = [0i32; 320];
@@ -284,88 +278,53 @@ fn try_audit(nums: &[u64], from: usize) -> Tried {
 }
 
 // A vector, of its kind: 1 a build, 2 an audit, 3 an extension.
-fn try_one(nums: &[u64], test: u64, from: usize) -> Tried {
+fn try_one(nums: &[u64], test: u64, from: usize) -> Step {
     match test {
         1 => try_build(nums, from),
         2 => try_audit(nums, from),
         3 => try_extend(nums, from),
-        _ => Tried {
-            good: false,
-            at: from,
+        _ => Step::Vector {
+            agrees: false,
+            next: from,
         },
     }
 }
 
 // ---- the vectors, one after the other
 
-// Where the next one is, and how many of the group agree so far.
-#[derive(Clone, Copy)]
-struct Turn {
-    at: usize,
-    agreed: u64,
-    tried: u64,
-}
+struct Indexes;
 
-fn name(group: u64) {
-    match group {
-        0 => io::write_all(1, b"builds of the paper's cases"),
-        1 => io::write_all(1, b"refused builds"),
-        2 => io::write_all(1, b"audits of the paper's index, whole and damaged"),
-        3 => io::write_all(1, b"builds"),
-        4 => io::write_all(1, b"audits of what is built"),
-        5 => io::write_all(1, b"audits of damaged indexes"),
-        6 => io::write_all(1, b"extensions by hand"),
-        7 => io::write_all(1, b"extensions"),
-        _ => io::write_all(1, b"extensions of damaged indexes"),
-    };
-}
-
-fn end_group(group: u64, t: Turn) {
-    name(group);
-    io::write_all(1, b": ");
-    io::print_decimal(1, t.agreed);
-    io::write_all(1, b" of ");
-    io::print_decimal(1, t.tried);
-    io::write_all(1, b" agree\n");
-}
-
-fn step(nums: &[u64], t: Turn) -> Turn {
-    let from = t.at;
-    let test = get_natural(nums, from);
-    if test == 0 {
-        let group = get_natural(nums, plus(from, 1));
-        end_group(group, t);
-        return Turn {
-            at: plus(from, 2),
-            agreed: 0,
-            tried: 0,
-        };
+impl Groups for Indexes {
+    fn name(group: u64) -> &'static str {
+        match group {
+            0 => "builds of the paper's cases",
+            1 => "refused builds",
+            2 => "audits of the paper's index, whole and damaged",
+            3 => "builds",
+            4 => "audits of what is built",
+            5 => "audits of damaged indexes",
+            6 => "extensions by hand",
+            7 => "extensions",
+            _ => "extensions of damaged indexes",
+        }
     }
-    let one = try_one(nums, test, plus(from, 1));
-    let good = one.good as u64;
-    Turn {
-        at: one.at,
-        agreed: t.agreed.wrapping_add(good),
-        tried: t.tried.wrapping_add(1),
+
+    fn step(nums: &[u64], at: usize) -> Step {
+        match get_natural(nums, at) {
+            0 => Step::End {
+                group: get_natural(nums, plus(at, 1)),
+                next: plus(at, 2),
+            },
+            test => try_one(nums, test, plus(at, 1)),
+        }
     }
 }
 
 // The first number says how many lines follow.
-fn run(nums: &[u64]) {
-    let mut t = Turn {
-        at: 1,
-        agreed: 0,
-        tried: 0,
-    };
-    for _ in 0..get_natural(nums, 0) {
-        t = step(nums, t);
-    }
-}
-
 fn main() {
     let mut text = io::large_buffer();
     let n = io::read_full(0, &mut text);
     let mut nums = [0u64; 32768];
     read_numbers(&text[..n], &mut nums);
-    run(&nums);
+    let _ = run_groups::<Indexes>(&nums, 1, get_natural(&nums, 0));
 }

@@ -7,7 +7,8 @@ ghost use Rattle.meaning_curves.specs.Limits.{most_program_values, longest_query
 use meaning_curves::{LONGEST_QUERY, MOST_PROGRAM_VALUES};
 use meaning_entries::Refusal;
 use meaning_filter::Limits;
-use std::fmt;
+use std::fmt::{self, Write};
+use try_out::Out;
 use try_vectors::{get_natural, get_small, plus, read_numbers};
 
 // The numbers of standard input, and how many of them are prices and values of the query.
@@ -71,13 +72,14 @@ impl fmt::Display for Count<'_> {
     }
 }
 
-pub fn print_refused(rt: &impl Print, r: Refusal) -> std::io::Result<()> {
-    println!(rt; "(refused {} {})", r.number, r.place)
+pub fn print_refused(out: &mut Out, r: Refusal) -> fmt::Result {
+    writeln!(out, "(refused {} {})", r.number, r.place)
 }
 
 // `not` says what is not done.
-pub fn print_too_much(rt: &impl Print, not: &str) -> std::io::Result<()> {
-    println!(rt;
+pub fn print_too_much(out: &mut Out, not: &str) -> fmt::Result {
+    writeln!(
+        out,
         "{not}: more than {MOST_PROGRAM_VALUES} prices, a query of more than {LONGEST_QUERY} values, or more than 65535 bytes"
     )
 }

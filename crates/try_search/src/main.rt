@@ -5,6 +5,7 @@ use entry_search::search;
 use meaning_entries::{Found, Refusal};
 use meaning_filter::{Ask, Kind, Limits, Pick};
 use meaning_rows::Row;
+use try_groups::{Groups, Step, run_groups};
 use try_vectors::{
     get_head, get_length, get_natural, get_numbers, get_row, get_small, get_values, plus,
     read_numbers,
@@ -305,68 +306,37 @@ fn search_one(nums: &[u64], p: Places) -> bool {
 
 // ---- the vectors, one after the other
 
-// Where the next one is, and how many of the group agree so far.
-#[derive(Clone, Copy)]
-struct Turn {
-    at: usize,
-    agreed: u64,
-    tried: u64,
-}
+struct Searches;
 
-fn name(group: u64) {
-    match group {
-        1 => io::write_all(1, b"the paper's cases"),
-        2 => io::write_all(1, b"raw straight"),
-        3 => io::write_all(1, b"raw warped"),
-        4 => io::write_all(1, b"normalised straight"),
-        5 => io::write_all(1, b"normalised warped"),
-        6 => io::write_all(1, b"short lists"),
-        7 => io::write_all(1, b"short buffers"),
-        8 => io::write_all(1, b"wrong indexes"),
-        9 => io::write_all(1, b"ill-formed indexes"),
-        _ => io::write_all(1, b"numbers and values past their limits"),
-    };
-}
-
-fn end_group(group: u64, t: Turn) {
-    name(group);
-    io::write_all(1, b": ");
-    io::print_decimal(1, t.agreed);
-    io::write_all(1, b" of ");
-    io::print_decimal(1, t.tried);
-    io::write_all(1, b" agree\n");
-}
-
-// A vector begins with 0; a number of a group ends it.
-fn step(nums: &[u64], t: Turn) -> Turn {
-    let from = t.at;
-    let group = get_natural(nums, from);
-    let next = plus(from, 1);
-    if group != 0 {
-        end_group(group, t);
-        return Turn {
-            at: next,
-            agreed: 0,
-            tried: 0,
-        };
+impl Groups for Searches {
+    fn name(group: u64) -> &'static str {
+        match group {
+            1 => "the paper's cases",
+            2 => "raw straight",
+            3 => "raw warped",
+            4 => "normalised straight",
+            5 => "normalised warped",
+            6 => "short lists",
+            7 => "short buffers",
+            8 => "wrong indexes",
+            9 => "ill-formed indexes",
+            _ => "numbers and values past their limits",
+        }
     }
-    let p = places_of(nums, next);
-    let good = search_one(nums, p);
-    Turn {
-        at: behind(nums, p.distances),
-        agreed: t.agreed.wrapping_add(good as u64),
-        tried: t.tried.wrapping_add(1),
-    }
-}
 
-fn run(nums: &[u64], turns: u64) {
-    let mut t = Turn {
-        at: 0,
-        agreed: 0,
-        tried: 0,
-    };
-    for _ in 0..turns {
-        t = step(nums, t);
+    // A vector begins with 0; a number of a group ends it.
+    fn step(nums: &[u64], at: usize) -> Step {
+        let next = plus(at, 1);
+        match get_natural(nums, at) {
+            0 => {
+                let p = places_of(nums, next);
+                Step::Vector {
+                    agrees: search_one(nums, p),
+                    next: behind(nums, p.distances),
+                }
+            }
+            group => Step::End { group, next },
+        }
     }
 }
 
@@ -375,5 +345,5 @@ fn main() {
     let n = io::read_full(0, &mut text);
     let mut nums = [0u64; 32768];
     read_numbers(&text[..n], &mut nums);
-    run(&nums, 263);
+    let _ = run_groups::<Searches>(&nums, 0, 263);
 }

@@ -1,28 +1,20 @@
 // Reads the index texts of its standard input, parted by '#', and every truncation of each; writes what each comes to, then the index of the whole text as it is written back, and what comes of too little room. tests/model/tried.rs has what it must write.
 #![tactic(auto)]
 
-ghost use Rattle.std.specs.Prelude.{◌≤◌, length};
+ghost use Rattle.std.specs.Prelude.{◌≤◌};
 
 use entry_read::read;
 use entry_write::write;
 use meaning_entries::{Held, Refusal};
 use meaning_rows::Row;
+use std::fmt::{self, Write};
+use try_out::Out;
 
 // The most rows that a text is read into.
 const ROWS: usize = 8;
 
-fn show(word: &[u8], first: u64, second: u64) {
-    io::write_all(1, b"(");
-    io::write_all(1, word);
-    io::write_all(1, b" ");
-    io::print_decimal(1, first);
-    io::write_all(1, b" ");
-    io::print_decimal(1, second);
-    io::write_all(1, b")\n");
-}
-
-fn show_refused(r: Refusal) {
-    show(b"refused", r.number as u64, r.place as u64);
+fn show_refused(out: &mut Out, r: Refusal) -> fmt::Result {
+    writeln!(out, "(refused {} {})", r.number, r.place)
 }
 
 fn no_rows() -> [Row; ROWS] {
@@ -36,101 +28,85 @@ fn no_rows() -> [Row; ROWS] {
 
 // ---- reading
 
-fn show_read(answer: Result<Held, Refusal>) {
+fn show_read(out: &mut Out, answer: Result<Held, Refusal>) -> fmt::Result {
     match answer {
-        Ok(made) => show(b"read", made.rows as u64, made.runs as u64),
-        Err(r) => show_refused(r),
+        Ok(made) => writeln!(out, "(read {} {})", made.rows, made.runs),
+        Err(r) => show_refused(out, r),
     }
 }
 
 // A text read where there is room for so many rows, and enough for its runs.
-fn try_rows(text: &[u8], rows: usize)
+fn try_rows(out: &mut Out, text: &[u8], rows: usize) -> fmt::Result
     requires { rows ≤ 8 }
 {
     let mut table = no_rows();
     let mut left = [7u32; 16];
     let mut right = [7u32; 16];
-    show_read(read(text, &mut table[..rows], &mut left, &mut right));
+    show_read(out, read(text, &mut table[..rows], &mut left, &mut right))
 }
 
 // The same with room for two runs.
-fn try_two(text: &[u8]) {
+fn try_two(out: &mut Out, text: &[u8]) -> fmt::Result {
     let mut table = no_rows();
     let mut left = [7u32; 2];
     let mut right = [7u32; 2];
-    show_read(read(text, &mut table, &mut left, &mut right));
+    show_read(out, read(text, &mut table, &mut left, &mut right))
 }
 
 // ---- writing back
 
 // What the entry write answered, and what it wrote.
-fn show_written(answer: Result<usize, Refusal>, out: &[u8]) {
+fn show_written(out: &mut Out, answer: Result<usize, Refusal>, text: &[u8]) -> fmt::Result {
     match answer {
         Ok(length) => {
-            if length <= out.len() {
-                io::write_all(1, &out[..length]);
+            if length <= text.len() {
+                io::write_all(1, &text[..length]);
             }
+            Ok(())
         }
-        Err(r) => show_refused(r),
+        Err(r) => show_refused(out, r),
     }
 }
 
 // A text read, and written back where it can be read and has at most three rows.
-fn try_back(text: &[u8], out: &mut [u8]) {
+fn try_back(out: &mut Out, text: &[u8], room: &mut [u8]) -> fmt::Result {
     let mut table = no_rows();
     let mut left = [7u32; 16];
     let mut right = [7u32; 16];
-    if let Ok(made) = read(text, &mut table, &mut left, &mut right) {
-        if made.rows <= 3 {
-            let answer = write(made.head, &table[..made.rows], &left, &right, out);
-            show_written(answer, out);
+    match read(text, &mut table, &mut left, &mut right) {
+        Ok(index) if index.rows <= 3 => {
+            let answer = write(index.head, &table[..index.rows], &left, &right, room);
+            show_written(out, answer, room)
         }
+        _ => Ok(()),
     }
 }
 
 // ---- the texts
 
-fn truncations(text: &[u8]) {
+fn truncations(out: &mut Out, text: &[u8]) -> fmt::Result {
     for k in 0..text.len() {
-        try_rows(&text[..k], ROWS);
+        try_rows(out, &text[..k], ROWS)?;
     }
+    Ok(())
 }
 
-fn try_text(text: &[u8]) {
+fn try_text(out: &mut Out, text: &[u8]) -> fmt::Result {
     let mut long = [0u8; 512];
     let mut short = [0u8; 16];
-    truncations(text);
-    try_rows(text, ROWS);
-    try_rows(text, 1);
-    try_two(text);
-    try_back(text, &mut long);
-    try_back(text, &mut short);
-}
-
-// The place of the next '#', or the end.
-fn end_of(text: &[u8], from: usize) -> usize
-    requires { from ≤ length text.now }
-    ensures { (from ≤ result) × (result ≤ length text.now) }
-{
-    for i in from..text.len() {
-        if text[i] == b'#' {
-            return i;
-        }
-    }
-    text.len()
-}
-
-fn run(all: &[u8]) {
-    let mut at = 0;
-    while at < all.len() {
-        let end = end_of(all, at);
-        try_text(&all[at..end]);
-        at = end + 1;
-    }
+    truncations(out, text)?;
+    try_rows(out, text, ROWS)?;
+    try_rows(out, text, 1)?;
+    try_two(out, text)?;
+    try_back(out, text, &mut long)?;
+    try_back(out, text, &mut short)
 }
 
 fn main() {
     let mut buf = io::large_buffer();
     let n = io::read_full(0, &mut buf);
-    run(&buf[..n]);
+    let mut out = Out;
+    for text in buf[..n].split_inclusive(|&b| b == b'#') {
+        let _ = try_text(&mut out, text.strip_suffix(b"#").unwrap_or(text));
+    }
 }
