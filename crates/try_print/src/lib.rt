@@ -1,7 +1,8 @@
-// What the programs replay and desk share: their input as numbers, the limits of a search read out of it, and words.
+// What programs that try cases share: their input as numbers, the limits of a search read out of it, and words.
 #![tactic(auto)]
 
-ghost use Rattle.std.specs.Prelude.{◌≤◌, IfSome};
+ghost use Rattle.std.specs.Prelude.{◌≤◌, IfSome, Some};
+ghost use Rattle.try_print.specs.Words.{count_text};
 ghost use Rattle.meaning_curves.specs.Limits.{most_program_values, longest_query};
 
 use meaning_curves::{LONGEST_QUERY, MOST_PROGRAM_VALUES};
@@ -65,10 +66,17 @@ pub struct Count<'a> {
 }
 
 impl fmt::Display for Count<'_> {
+    ghost output = { λ c. Some (count_text c) };
+
+    #[tactic(auto, unfolding(crate::specs::Words::count_text))]
     fn fmt<W: fmt::Write>(&self, f: &mut fmt::Formatter<W>) -> fmt::Result {
         let n = self.n;
-        let what = if n == 1 { self.one } else { self.many };
-        write!(f, "{n} {what}")
+        if n == 1 {
+            let one = self.one;
+            return write!(f, "{n} {one}");
+        }
+        let many = self.many;
+        write!(f, "{n} {many}")
     }
 }
 

@@ -3,9 +3,10 @@
 
 use entry_search::search;
 use meaning_entries::{Found, Refusal};
-use meaning_filter::{Ask, Kind, Limits, Pick};
+use meaning_filter::{Ask, Kind, Pick};
 use meaning_rows::Row;
 use try_groups::{Groups, Step, run_groups};
+use try_print::get_limits;
 use try_vectors::{
     get_head, get_length, get_natural, get_numbers, get_row, get_small, get_values, plus,
     read_numbers,
@@ -37,15 +38,6 @@ fn get_kind(nums: &[u64], at: usize) -> Kind {
         return Kind::Raw;
     }
     Kind::Normal
-}
-
-fn get_limits(nums: &[u64], at: usize) -> Limits {
-    Limits {
-        band: get_small(nums, at),
-        threshold: get_natural(nums, plus(at, 1)),
-        scale: get_small(nums, plus(at, 2)),
-        shift: get_small(nums, plus(at, 3)),
-    }
 }
 
 // ---- comparing

@@ -9,13 +9,10 @@ use meaning_entries::{Held, Refusal};
 use meaning_rows::Row;
 use std::fmt::{self, Write};
 use try_out::Out;
+use try_print::print_refused;
 
 // The most rows that a text is read into.
 const ROWS: usize = 8;
-
-fn show_refused(out: &mut Out, r: Refusal) -> fmt::Result {
-    writeln!(out, "(refused {} {})", r.number, r.place)
-}
 
 fn no_rows() -> [Row; ROWS] {
     [Row {
@@ -31,7 +28,7 @@ fn no_rows() -> [Row; ROWS] {
 fn show_read(out: &mut Out, answer: Result<Held, Refusal>) -> fmt::Result {
     match answer {
         Ok(made) => writeln!(out, "(read {} {})", made.rows, made.runs),
-        Err(r) => show_refused(out, r),
+        Err(r) => print_refused(out, r),
     }
 }
 
@@ -64,7 +61,7 @@ fn show_written(out: &mut Out, answer: Result<usize, Refusal>, text: &[u8]) -> f
             }
             Ok(())
         }
-        Err(r) => show_refused(out, r),
+        Err(r) => print_refused(out, r),
     }
 }
 

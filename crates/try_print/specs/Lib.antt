@@ -1,0 +1,2 @@
+-- What try_print promises.
+pub mod Words
