@@ -36,6 +36,7 @@ use denote.Triple.Statement.{Triple}
 use types.Logic.{Logic, sem}
 use base.Fraction.{full_share}
 use seplogic.Ra.Ura.{Ura}
+use mathlib.Core.Option.{some as just}
 use mir.Fields.{get_v, set_v}
 use mir.Syntax.{Width, Ty, Callee, Place, place, field, deref, Opd as Operand, copy, Rv as RValue, addr_of, Body, assign, seq, call, erased}
 use mir.Val.{Val, Vals as MirVals, vstruct, of_list, of_z, vint, vbool, vunit, vptr, has_ty, WT}
@@ -45,7 +46,7 @@ use sound.WpLaws.{FmC}
 use types.Kit.{Item, nth, put, mean, ‵, raw, ◌⊛◌, some, given, later, ⋆, push, pop, ⊢++, Post, lands, runs, Seq, Step, ◌$◌, ◌∵◌, !, qed, by, cut, rewrite, use0, use1, use2, use3, split, split3, join, fsplit, fjoin, feq_i, move, keep, pick, learn, await, check, updating, now as at_once, show, frame, done, Goal, frees, step, ++⊢}
 use types.Part.{Part, look_in, sub, whole}
 use types.Run.{Opd, Opds, Rv, look, init, stop, hop, fld, from, load, addr, assigns, forget, free1, free0}
-use Rattle.meaning_numbers.proofs.Prelude.{ℕ, zero, suc, ◌+◌, T as True, length, List, [], ◌∷◌, ◌++◌, some as just, ◌≡◌, refl, sym, ◌∙◌, subst}
+use Rattle.meaning_numbers.proofs.Prelude.{ℕ, zero, suc, ◌+◌, T as True, length, List, [], ◌∷◌, ◌++◌, ◌≡◌, refl, sym, ◌∙◌, subst}
 use Rattle.walk_kit.proofs.{Again.LentAgain, Lends.Own, Lends.Shr, Lends.SharedAgain, Lends.given_back, Lends.lend, Lends.comes, Lends.share, Lends.unshare, Told.Tokens, Told.End, Told.Ends, Told.calls-ended, Walk.Owned, Walk.AtEntry, Walk.at_entry}
 use denote.Struct.Laws as LL
 use denote.Enum.Laws as EL
