@@ -71,7 +71,10 @@ fn print_found(
             print_head(out, count, candidates, matches)?;
             print_list(out, offsets, distances, count.min(matches))
         }
-        Err(r) => print_refused(out, r),
+        Err(r) => {
+            print_refused(out, r);
+            Ok(())
+        }
         // Not answered where the closest few are asked for.
         _ => Ok(()),
     }
@@ -137,7 +140,10 @@ fn desk(
         series, window, width, merge, &mut rows, &mut left, &mut right,
     );
     match made {
-        Err(r) => print_refused(out, r),
+        Err(r) => {
+            print_refused(out, r);
+            Ok(())
+        }
         Ok(index) => {
             let n = index.rows.min(MOST_PROGRAM_VALUES);
             search_closest(
@@ -193,9 +199,11 @@ fn run(out: &mut Out, nums: &[u64], n: usize, m: usize) -> fmt::Result
 
 fn main() {
     let mut out = Out;
-    // What can't be printed is lost.
-    let _ = match read_input(3) {
-        Some(x) => run(&mut out, &x.numbers, x.prices, x.values),
-        None => print_too_much(&mut out, "not searched"),
-    };
+    match read_input(3) {
+        Some(x) => {
+            // What can't be printed is lost.
+            let _ = run(&mut out, &x.numbers, x.prices, x.values);
+        }
+        None => print_too_much(&mut out, b"not searched"),
+    }
 }

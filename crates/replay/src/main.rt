@@ -282,12 +282,12 @@ fn tell(
             })
         }
         Ok(Found::Full { .. }) => {
-            print_refused(out, Refusal::at(Reason::FullList, 0))?;
+            print_refused(out, Refusal::at(Reason::FullList, 0));
             Ok(unheld)
         }
         Ok(Found::Few { .. }) => Ok(unheld),
         Err(r) => {
-            print_refused(out, r)?;
+            print_refused(out, r);
             Ok(unheld)
         }
     }
@@ -371,7 +371,10 @@ fn replay(out: &mut Out, s: Story, series: &[i32], query: &[i32]) -> fmt::Result
     );
     write!(out, "index of {}: ", prices(s.indexed))?;
     match made {
-        Err(r) => print_refused(out, r),
+        Err(r) => {
+            print_refused(out, r);
+            Ok(())
+        }
         Ok(index) => {
             print_index(out, index.head)?;
             let n = index.rows.min(MOST_PROGRAM_VALUES);
@@ -395,9 +398,11 @@ fn run(out: &mut Out, nums: &[u64], n: usize, m: usize) -> fmt::Result
 
 fn main() {
     let mut out = Out;
-    // What can't be printed is lost.
-    let _ = match read_input(4) {
-        Some(x) => run(&mut out, &x.numbers, x.prices, x.values),
-        None => print_too_much(&mut out, "not replayed"),
-    };
+    match read_input(4) {
+        Some(x) => {
+            // What can't be printed is lost.
+            let _ = run(&mut out, &x.numbers, x.prices, x.values);
+        }
+        None => print_too_much(&mut out, b"not replayed"),
+    }
 }

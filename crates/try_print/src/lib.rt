@@ -80,14 +80,16 @@ impl fmt::Display for Count<'_> {
     }
 }
 
-pub fn print_refused(out: &mut Out, r: Refusal) -> fmt::Result {
-    writeln!(out, "(refused {} {})", r.number, r.place)
+// What can't be printed is lost.
+pub fn print_refused(out: &mut Out, r: Refusal) {
+    let _ = writeln!(out, "(refused {} {})", r.number, r.place);
 }
 
 // `not` says what is not done.
-pub fn print_too_much(out: &mut Out, not: &str) -> fmt::Result {
-    writeln!(
+pub fn print_too_much(out: &mut Out, not: &[u8]) {
+    io::write_all(1, not);
+    let _ = writeln!(
         out,
-        "{not}: more than {MOST_PROGRAM_VALUES} prices, a query of more than {LONGEST_QUERY} values, or more than 65535 bytes"
-    )
+        ": more than {MOST_PROGRAM_VALUES} prices, a query of more than {LONGEST_QUERY} values, or more than 65535 bytes"
+    );
 }

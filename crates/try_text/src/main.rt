@@ -28,7 +28,10 @@ fn no_rows() -> [Row; ROWS] {
 fn show_read(out: &mut Out, answer: Result<Held, Refusal>) -> fmt::Result {
     match answer {
         Ok(made) => writeln!(out, "(read {} {})", made.rows, made.runs),
-        Err(r) => print_refused(out, r),
+        Err(r) => {
+            print_refused(out, r);
+            Ok(())
+        }
     }
 }
 
@@ -61,7 +64,10 @@ fn show_written(out: &mut Out, answer: Result<usize, Refusal>, text: &[u8]) -> f
             }
             Ok(())
         }
-        Err(r) => print_refused(out, r),
+        Err(r) => {
+            print_refused(out, r);
+            Ok(())
+        }
     }
 }
 
