@@ -75,22 +75,24 @@ pub fn audit_chunk(
     ensures { result ≡ wrong_of series.now head.window left.now right.now from chunk }
 {
     let rest = head.window as usize - 1;
-    'rows: for k in 0..64 {
-        let r = chunk[k];
-        let first = r.first as usize;
-        'runs: for i in first..first + r.runs as usize {
-            let start = left[i] as usize;
-            let mut part = part_sum(series, rest, start);
-            'offsets: for j in start..right[i] as usize + 1 {
-                let sum = value_in(series, rest, j, part);
-                if !holds(r.low, r.up, sum) {
-                    return Some((from + k, j));
+    'audit: {
+        for k in 0..64 {
+            let r = chunk[k];
+            let first = r.first as usize;
+            for i in first..first + r.runs as usize {
+                let start = left[i] as usize;
+                let mut part = part_sum(series, rest, start);
+                for j in start..right[i] as usize + 1 {
+                    let sum = value_in(series, rest, j, part);
+                    if !holds(r.low, r.up, sum) {
+                        break 'audit Some((from + k, j));
+                    }
+                    part = value_out(series, rest, j, sum);
                 }
-                part = value_out(series, rest, j, sum);
             }
         }
+        None
     }
-    None
 }
 
 // What refuses an audit, by its series and by what judging said of the index.

@@ -1,5 +1,5 @@
 -- Laws of specs/Refusal: a table line by line, and part by part.
-use Rattle.std.specs.Prelude.{Ok, Err}
+use Rattle.std.specs.Prelude.{Ok, Err, cond}
 use Rattle.std.specs.declared.result.Result.{Result}
 use Rattle.meaning_numbers.proofs.Prelude.{◌≡◌, refl, ap, ◌∙◌, Bool, true, false, List, [], ◌∷◌, ◌++◌, None, Some, ℕ}
 use Rattle.meaning_entries.specs.{declared.Refusal.Refusal, Answers.refusal, Refusal.Condition, Refusal.first_refusal, Refusal.at_zero}
@@ -32,6 +32,12 @@ test-none n t e = rw e refl
 -- the line of a test, by a verdict on what the code tested
 pub line : (n : ℕ) {r : Result (Unit {0}) Refusal} {b t : Bool} → b ≡ t → r ≡ verdict (at_zero n b ∷ []) → r ≡ verdict (at_zero n t ∷ [])
 line n e f = f ∙ ap (λ b. verdict (at_zero n b ∷ [])) e
+
+-- a test before what a table says
+pub line_before : (n : ℕ) {r r' : Result (Unit {0}) Refusal} {b : Bool} (t : Bool) (l : List Condition) → r ≡ verdict l → b ≡ t → r' ≡ cond b (Err (refusal (n, 0))) r → r' ≡ verdict (at_zero n t ∷ l)
+unfolding verdict_of first_refusal
+line_before n {r} true l e f g = g ∙ ap (λ b. cond b (Err (refusal (n, 0))) r) f
+line_before n {r} false l e f g = g ∙ ap (λ b. cond b (Err (refusal (n, 0))) r) f ∙ e
 
 -- ---- a table in two parts, of a verdict that is still by all of it
 

@@ -17,66 +17,66 @@ told s w j {low} {up} {sum} least f g h e t =
     let m = to_z-of_z w32 sum h ∙ e ∙ ap (λ n. window_sum s n j) n in
     t ∙ (λ i. inside (l i) (u i) (m i))
 
-pub rows-init : goal.rows-init
-rows-init c =
+pub loop-k-init : goal.loop-k-init
+loop-k-init c =
     let a = c.args in
     let e : a.from + 0 ≡ a.from = omega arith in
     ap (λ i. wrong_of a.series.now a.head.window a.left.now a.right.now i a.chunk) e
 
-pub runs-init : goal.runs-init
-runs-init c =
+pub loop-i-init : goal.loop-i-init
+loop-i-init c =
     let a = c.args in
-    row-begins a.series.now a.head.window a.left.now a.right.now a.from a.chunk c.rows.k (omega (arith, c.requires.size, c.rows-test.true)) ∙ c.rows.invariant
+    row-begins a.series.now a.head.window a.left.now a.right.now a.from a.chunk c.loop-k.k (omega (arith, c.requires.size, c.loop-k-test.true)) ∙ c.loop-k.invariant
 
-pub offsets-init : goal.offsets-init
-offsets-init c =
+pub loop-j-init : goal.loop-j-init
+loop-j-init c =
     let a = c.args in
-    let i = c.runs.i in
-    let r = get_or a.chunk c.rows.k zero_row in
-    let reads = c.requires.rows c.rows.k c.rows-test.true in
+    let i = c.loop-i.i in
+    let r = get_or a.chunk c.loop-k.k zero_row in
+    let reads = c.requires.rows c.loop-k.k c.loop-k-test.true in
     record {
       part = to_z-of_z w32 _ (record { sfits = c.part_sum-part.type_inv }) ∙ c.part_sum-part.ensures;
-      left = run-begins a.series.now a.head.window a.left.now a.right.now (a.from + c.rows.k) r i (r.first + r.runs) (later a.series.now a.head.window a.left.now a.right.now a.from a.chunk c.rows.k) c.runs-test.true reads.in_left reads.in_right
-          ∙ c.runs.invariant;
+      left = run-begins a.series.now a.head.window a.left.now a.right.now (a.from + c.loop-k.k) r i (r.first + r.runs) (later a.series.now a.head.window a.left.now a.right.now a.from a.chunk c.loop-k.k) c.loop-i-test.true reads.in_left reads.in_right
+          ∙ c.loop-i.invariant;
     }
 
 pub value_in-sum-requires-clause-part_value : goal.value_in-sum-requires-clause-part_value
-value_in-sum-requires-clause-part_value c = c.offsets.invariant.part
+value_in-sum-requires-clause-part_value c = c.loop-j.invariant.part
 
 pub returns-then-not-holds : goal.returns-then-not-holds
 returns-then-not-holds c =
     let a = c.args in
-    let r = get_or a.chunk c.rows.k zero_row in
-    let wrong : inside r.low r.up (window_sum a.series.now a.head.window c.offsets.j) ≡ false =
-    sym (told a.series.now a.head.window c.offsets.j {low = r.low} {up = r.up} {sum = c.value_in-sum.result} c.requires.least (record { sfits = (search rules) }) (record { sfits = (search rules) }) (record { sfits = c.value_in-sum.type_inv }) c.value_in-sum.ensures c.holds.ensures) ∙ c.if-not-holds.true in
-    filed-wrong a.series.now a.head.window a.left.now a.right.now _ r c.offsets.j _ _ (r.first + r.runs) _ (omega (arith, c.offsets-test.true)) wrong ∙ c.offsets.invariant.left
+    let r = get_or a.chunk c.loop-k.k zero_row in
+    let wrong : inside r.low r.up (window_sum a.series.now a.head.window c.loop-j.j) ≡ false =
+    sym (told a.series.now a.head.window c.loop-j.j {low = r.low} {up = r.up} {sum = c.value_in-sum.result} c.requires.least (record { sfits = (search rules) }) (record { sfits = (search rules) }) (record { sfits = c.value_in-sum.type_inv }) c.value_in-sum.ensures c.holds.ensures) ∙ c.if-not-holds.true in
+    filed-wrong a.series.now a.head.window a.left.now a.right.now _ r c.loop-j.j _ _ (r.first + r.runs) _ (omega (arith, c.loop-j-test.true)) wrong ∙ c.loop-j.invariant.left
 
-pub offsets-preserved : goal.offsets-preserved
-offsets-preserved c =
+pub loop-j-preserved : goal.loop-j-preserved
+loop-j-preserved c =
     let a = c.args in
-    let r = get_or a.chunk c.rows.k zero_row in
-    let right : inside r.low r.up (window_sum a.series.now a.head.window c.offsets.j) ≡ true =
-    sym (told a.series.now a.head.window c.offsets.j {low = r.low} {up = r.up} {sum = c.value_in-sum.result} c.requires.least (record { sfits = (search rules) }) (record { sfits = (search rules) }) (record { sfits = c.value_in-sum.type_inv }) c.value_in-sum.ensures c.holds.ensures) ∙ c.if-not-holds.false in
+    let r = get_or a.chunk c.loop-k.k zero_row in
+    let right : inside r.low r.up (window_sum a.series.now a.head.window c.loop-j.j) ≡ true =
+    sym (told a.series.now a.head.window c.loop-j.j {low = r.low} {up = r.up} {sum = c.value_in-sum.result} c.requires.least (record { sfits = (search rules) }) (record { sfits = (search rules) }) (record { sfits = c.value_in-sum.type_inv }) c.value_in-sum.ensures c.holds.ensures) ∙ c.if-not-holds.false in
     record {
       part = to_z-of_z w32 _ (record { sfits = c.value_out-part.type_inv }) ∙ c.value_out-part.ensures;
-      left = filed-right a.series.now a.head.window a.left.now a.right.now _ r _ _ _ (r.first + r.runs) _ (omega (arith, c.offsets-test.true)) right ∙ c.offsets.invariant.left;
+      left = filed-right a.series.now a.head.window a.left.now a.right.now _ r _ _ _ (r.first + r.runs) _ (omega (arith, c.loop-j-test.true)) right ∙ c.loop-j.invariant.left;
     }
 
-pub runs-preserved : goal.runs-preserved
-runs-preserved c =
+pub loop-i-preserved : goal.loop-i-preserved
+loop-i-preserved c =
     let a = c.args in
-    let r = get_or a.chunk c.rows.k zero_row in
-    run_ends a.series.now a.head.window a.left.now a.right.now (a.from + c.rows.k) r _ _ _ (r.first + r.runs) (later a.series.now a.head.window a.left.now a.right.now a.from a.chunk c.rows.k) (omega (arith, c.offsets-test.false))
-    ∙ c.offsets.invariant.left
+    let r = get_or a.chunk c.loop-k.k zero_row in
+    run_ends a.series.now a.head.window a.left.now a.right.now (a.from + c.loop-k.k) r _ _ _ (r.first + r.runs) (later a.series.now a.head.window a.left.now a.right.now a.from a.chunk c.loop-k.k) (omega (arith, c.loop-j-test.false))
+    ∙ c.loop-j.invariant.left
 
-pub rows-preserved : goal.rows-preserved
-rows-preserved c =
+pub loop-k-preserved : goal.loop-k-preserved
+loop-k-preserved c =
     let a = c.args in
-    let r = get_or a.chunk c.rows.k zero_row in
-    row_ends a.series.now a.head.window a.left.now a.right.now (a.from + c.rows.k) r c.runs.i (r.first + r.runs) (later a.series.now a.head.window a.left.now a.right.now a.from a.chunk c.rows.k) c.runs-test.false
-    ∙ c.runs.invariant
+    let r = get_or a.chunk c.loop-k.k zero_row in
+    row_ends a.series.now a.head.window a.left.now a.right.now (a.from + c.loop-k.k) r c.loop-i.i (r.first + r.runs) (later a.series.now a.head.window a.left.now a.right.now a.from a.chunk c.loop-k.k) c.loop-i-test.false
+    ∙ c.loop-i.invariant
 
-pub returns : goal.returns
-returns c =
+pub returns-after-loop-k : goal.returns-after-loop-k
+returns-after-loop-k c =
     let a = c.args in
-    none_left a.series.now a.head.window a.left.now a.right.now _ a.chunk c.rows.k (omega (arith, c.requires.size, c.rows-test.false)) ∙ c.rows.invariant
+    none_left a.series.now a.head.window a.left.now a.right.now _ a.chunk c.loop-k.k (omega (arith, c.requires.size, c.loop-k-test.false)) ∙ c.loop-k.invariant
