@@ -49,6 +49,7 @@ pub fn fill_parts(
 {
     let windows = s.len() + 1 - w;
     let mut at = from;
+    // A `while`: where the next turn begins is found in the body.
     while at.offset < windows {
         let sum = sum_of(w, e, at);
         let r = find_record(rows, count, sum);

@@ -61,7 +61,7 @@ pub fn raise_runs(
     }
 }
 
-// How many runs and how many candidates were handed out, and whether the last run reaches to the last offset looked at, so that it may go on.
+// How many runs and how many candidates were handed out, and whether the last run reaches to the last offset looked at, so that it may go on. A flag and no Option: both counts are meant in either case.
 #[derive(Clone, Copy, Default)]
 pub struct Found {
     pub runs: usize,
@@ -69,7 +69,7 @@ pub struct Found {
     pub going: bool,
 }
 
-// Offset `j` taken in behind `k` runs, if it is `here`: it joins the last run where the offset before it is in it, and else begins a run; how many runs there are then.
+// Offset `j` taken in behind `k` runs, if it is `here`: it joins the last run where the offset before it is in it, and else begins a run; how many runs there are then. Its flags are those of `put_left` and `put_right`.
 #[tactic(auto, unfolding(meaning_numbers::specs::Sum::bit, meaning_rows::proofs::Columns::put_left, meaning_rows::proofs::Columns::put_right))]
 pub fn put(here: bool, prev: bool, j: usize, k: usize, left: &mut [u32], right: &mut [u32]) -> usize
     requires j_bound { j < 4294967296 }
@@ -159,6 +159,7 @@ pub fn write_runs(
 {
     let mut out = Found::default();
     let mut j: usize = 0;
+    // A `while`: a step is a block of 64.
     while 64 <= offsets - j {
         out = take_block(scratch, p, j, out, left, right);
         j += 64;

@@ -41,7 +41,7 @@ pub fn pass_back(out: &mut [i32], d: usize, low: bool)
     }
 }
 
-// Each value becomes the best of itself and the `b` values ahead.
+// Each value becomes the best of itself and the `b` values ahead. Beside `reach_back`: the one goes up and the other down. A `while`: the step doubles.
 pub fn reach_ahead(out: &mut [i32], b: usize, low: bool)
     ensures { Ahead low b out.old out.new }
 {

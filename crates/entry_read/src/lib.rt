@@ -107,6 +107,7 @@ pub fn fill_runs(text: &[u8], left: &mut [u32], right: &mut [u32])
     let mut l: u32 = 0;
     let mut k: usize = 0;
     let mut i: usize = 0;
+    // A `loop`: the next place comes out of the event at hand.
     loop {
         match next_event(text, s, i) {
             Event::Row(_, _, a, b, at) => {

@@ -74,6 +74,7 @@ pub fn count_new(
         offset: old,
         level: level_at(s, w, e, old),
     };
+    // A `while`: where the next turn begins is found in the body.
     while at.offset < windows {
         let i = find_above(ups, count, at.level);
         counts[i] += 1;

@@ -1,4 +1,4 @@
-// The rows of an extension: the old rows and the row numbers of the new windows, woven into row records by one ascending walk. A thin walked loop over covered functions on a record by value and numbers.
+// The rows of an extension: the old rows and the row numbers of the new windows, woven into row records by one ascending loop over functions on a record by value and numbers.
 #![tactic(auto)]
 
 ghost use Rattle.std.specs.Prelude.{◌≡◌, ◌+◌, ◌*◌, ◌<◌, length};
@@ -102,6 +102,7 @@ pub fn weave_rows(
     let mut a: usize = 0;
     let mut b: usize = 0;
     let mut k: usize = 0;
+    // A merge of two lists, each with a place of its own.
     while a + b < turns {
         let r = row_or(old, a, end);
         let low = low_at(numbers, count, d, base, b);

@@ -18,6 +18,7 @@ pub struct Limits {
 }
 
 // What a search hands out: all matches; or the closest few, so many at most (02, item 2).
+// An enum of its own: it is what is asked, and no outcome.
 #[derive(Clone, Copy, PartialEq, Eq)]
 pub enum Pick {
     All,

@@ -24,6 +24,7 @@ pub fn root(y: u64) -> u64
 {
     let mut r: u64 = 0;
     let mut width: u64 = 4294967296;
+    // A `while`: a width is halved, and no index counted.
     while 1 < width {
         let half = width / 2;
         let t = r + half;
@@ -42,7 +43,7 @@ pub fn quotient(n: u32, d: u32) -> u32
     n.checked_div(d).unwrap_or(0)
 }
 
-// The number of the row that holds a sum, for negative sums too; for rows of width 0, which nothing asks for, 0 or -1.
+// The number of the row that holds a sum, for negative sums too; for rows of width 0, which nothing asks for, 0 or -1. std's forms are no plainer: a width may be 0.
 pub fn row_number(sum: i32, width: u32) -> i32
     ensures { result ≡ row_number width sum }
 {
@@ -79,7 +80,7 @@ pub fn lower(n: u64, k: u64) -> i32
     n as i32 - k as i32
 }
 
-// The size of the difference of two values.
+// The size of the difference of two values. Not by `abs_diff`, with which the straight distance takes longer.
 pub fn gap(x: i32, y: i32) -> u32
     requires in_limits { InLimits x }
     requires in_limits_2 { InLimits y }

@@ -57,6 +57,7 @@ pub fn count_runs(
 {
     let windows = s.len() + 1 - w;
     let mut at = first_place(s, w, e);
+    // A `while`: where the next turn begins is found in the body.
     while at.offset < windows {
         let k = row_of_level(at.level, d);
         let i = find_number(numbers, count, k);

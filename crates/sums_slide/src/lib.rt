@@ -182,6 +182,7 @@ pub fn mark(s: &[i32], w: usize, e: u64, d: u64, base: u64, flags: &mut [u8])
 {
     let windows = s.len() + 1 - w;
     let mut at = first_place(s, w, e);
+    // A `while`: where the next turn begins is found in the body.
     while at.offset < windows {
         let k = row_of_level(at.level, d);
         set_flag(flags, base, k);
@@ -265,6 +266,7 @@ pub fn list_rows(s: &[i32], w: usize, e: u64, d: u64, flags: &mut [u8], out: &mu
     let last = row_of_level(ends.greatest, d);
     let mut base = row_of_level(ends.least, d);
     let mut k: usize = 0;
+    // A `while`: a step is a chunk of flags.
     while base <= last {
         k = list_chunk(s, w, e, d, base, flags, out, k);
         base += size;

@@ -54,6 +54,7 @@ pub enum State {
 }
 
 // What a byte does to a text: it goes on; it ended a number; it ended a row; no text could have it there.
+// Four cases: an Option of three would wrap each arm of the matches.
 #[derive(Clone, Copy)]
 pub enum Moved {
     To(State),

@@ -18,7 +18,7 @@ use rows_judge::{head_good, range_good, run_good, total_good};
 use text_event::{Event, next_event, plain_run, run_left, run_length, run_right};
 use text_index::{Field, State, Turn, Word};
 
-// The runs of a row so far: how many, that they are good, the least left end that the next may have, and their lengths added up.
+// The runs of a row so far: how many, that they are good, the least left end that the next may have, and their lengths added up. Whether they are good is a flag: they are counted in either case.
 #[derive(Clone, Copy)]
 pub struct Runs {
     pub count: usize,
@@ -36,7 +36,7 @@ pub struct Open {
     pub runs: Runs,
 }
 
-// The rows that are closed: that they are good, how many, how many runs they have, where the last one's range ends, and their run lengths added up. After a bad row nothing is counted on.
+// The rows that are closed: that they are good, how many, how many runs they have, where the last one's range ends, and their run lengths added up. After a bad row nothing is counted on, and what was counted tells which it is: so a flag.
 #[derive(Clone, Copy)]
 pub struct Rows {
     pub good: bool,
@@ -284,6 +284,7 @@ pub fn scan(text: &[u8]) -> Result<(Head, Rows), usize>
     let mut s = State::In(Word::Window, 0);
     let mut t = no_tally();
     let mut i = 0;
+    // A `loop`: the next place comes out of the event at hand.
     loop {
         match next_event(text, s, i) {
             Event::Row(low, up, l, r, at) => {

@@ -57,6 +57,7 @@ pub fn write_u64(buf: &mut [u8], at: usize, x: u64) -> usize
     put_digits(buf, at, x)
 }
 
+// Beside `write_i32`: two types, and this one has no sign to write.
 pub fn write_u32(buf: &mut [u8], at: usize, x: u32) -> usize
     ensures { Put buf.old at (spellℤ (pos x)) buf.new result }
 {

@@ -68,6 +68,7 @@ fn row_from(text: &[u8], at: usize, s: State, t: Tally) -> Line
     let mut state = s;
     let mut tally = t;
     let mut i = at;
+    // A `loop`: the next place comes out of the event at hand.
     loop {
         match next_event(text, state, i) {
             Event::Row(low, up, l, r, j) => {

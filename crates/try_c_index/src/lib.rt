@@ -14,6 +14,7 @@ use meaning_entries::{Audited, Held, Refusal};
 use meaning_rows::{Head, Row};
 
 // An answer: its kind, 3 where the call is refused, a head where it has one, and two numbers.
+// Numbers and no enum: it is what C takes.
 #[repr(C)]
 #[derive(Clone, Copy)]
 pub struct Answer {

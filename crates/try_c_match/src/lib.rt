@@ -92,7 +92,7 @@ pub fn can_prepare(kind: Kind, q: &[i32]) -> bool
     }
 }
 
-// For each stretch of `s` the distance and 1 where it matches `q`, else 0. How many were written; 0 where the input is refused. `curve`, `low`, `high` and `room` are as long as `q`, `row` is longer: the first three are left with the curve compared and its envelopes; what `room` and `row` hold is free.
+// For each stretch of `s` the distance and 1 where it matches `q`, else 0. How many were written; 0 where the input is refused. `curve`, `low`, `high` and `room` are as long as `q`, `row` is longer: the first three are left with the curve compared and its envelopes; what `room` and `row` hold is free. The kind is a number, since it is what C takes.
 pub fn curve_matches(
     kind: u32,
     s: &[i32],

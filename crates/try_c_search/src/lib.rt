@@ -24,6 +24,7 @@ pub struct Asked {
 }
 
 // An answer: 0 and both counts where all matches are listed, 1 and both counts where the list is full, 2 and both counts where the closest few are listed, 3 and the refusal's number and place.
+// Numbers and no enum: it is what C takes.
 #[repr(C)]
 #[derive(Clone, Copy)]
 pub struct Answer {
