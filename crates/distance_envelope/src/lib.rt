@@ -8,6 +8,8 @@ ghost use Rattle.distance_envelope.specs.Best.{pick, edge};
 ghost use Rattle.distance_envelope.specs.Pass.{PassAhead, PassBack, Ahead, Back};
 ghost use Rattle.distance_envelope.specs.Envelope.{IsEnvelope};
 
+use values::copy_values;
+
 // The lesser of two values, or the greater. A flag and not a closure: it is the flag of `edge`, by which one set of laws serves both envelopes.
 pub fn pick(low: bool, x: i32, y: i32) -> i32
     ensures { result ≡ pick low x y }
@@ -70,7 +72,7 @@ pub fn envelope(q: &[i32], b: usize, low: bool, out: &mut [i32])
     requires { length out.old ≡ length q.now }
     ensures { IsEnvelope (edge low (at q.now) (length q.now) b) (length q.now) out.new }
 {
-    out.copy_from_slice(q);
+    copy_values(q, out);
     reach_ahead(out, b, low);
     reach_back(out, b, low);
 }

@@ -12,7 +12,7 @@ ghost use Rattle.distance_query.specs.Ready.{Ready, IsCurve};
 use distance_envelope::{lower_envelope, upper_envelope};
 use distance_normal::normalise;
 use meaning_filter::Kind;
-use values::{Sums, spread_of, sums_at};
+use values::{Sums, copy_values, spread_of, sums_at};
 
 // The numbers that depend on the query alone: the sum of its raised values, and its spread.
 #[derive(Clone, Copy)]
@@ -32,7 +32,7 @@ pub fn curve_of(kind: Kind, q: &[i32], t: Sums, a: u64, out: &mut [i32])
     ensures { IsCurve kind q.now out.new }
 {
     match kind {
-        Kind::Raw => out.copy_from_slice(q),
+        Kind::Raw => copy_values(q, out),
         Kind::Normal => normalise(q, 0, t, a, out),
     }
 }

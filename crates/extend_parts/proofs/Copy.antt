@@ -1,13 +1,15 @@
 -- Laws of specs/Copy.
-use Rattle.meaning_numbers.proofs.Prelude.{◌≡◌, refl, ◌∙◌, List, ◌++◌, ℕ, zero, suc, ◌+◌, ◌-◌, ◌≤◌, add-one, arith, ltb, length, get_or, take, drop, length-set, length-append, length-drop, paste, length-paste, length-take-le, by-test}
+use Rattle.meaning_numbers.proofs.Prelude.{◌≡◌, refl, sym, ap, ◌∙◌, List, ◌++◌, ℕ, zero, suc, ◌+◌, ◌-◌, ◌<◌, ◌≤◌, add-one, arith, ltb, length, get_or, set, take, drop, length-set, length-append, length-drop, paste, paste-suc, length-paste, length-take-le, by-test}
 use Rattle.meaning_rows.specs.declared.Row.{Row}
 use Rattle.rows_records.specs.Records.{zero_row}
 use Rattle.build_parts.proofs.Lent.{lent_from, back_at, lent_is, back-made}
 use Rattle.extend_parts.specs.Copy.{part_size, written, part_copied, CopyRoom, old_passed, passed_to, next_old, column_to, Copyable}
 
--- the first numbers copied to the front
-pub front_copied : (d s : List ℕ) (n : ℕ) {front : List ℕ} → front ≡ take n s → front ++ drop n d ≡ paste d 0 s n
-front_copied d s n e = let z : 0 + n ≡ n = omega arith in rw (e, z)
+-- one number more copied to the front
+pub paste_more : (d s : List ℕ) (t : ℕ) → t < length d → t < length s → set (paste d 0 s t) t (get_or s t 0) ≡ paste d 0 s (t + 1)
+paste_more d s t h k =
+    let z : t ≡ 0 + t = omega arith in
+    ap (λ i. set (paste d 0 s t) i (get_or s t 0)) z ∙ paste-suc d 0 s t 0 (omega arith) k ∙ ap (paste d 0 s) (sym (add-one t))
 
 length-written : (n size : ℕ) (numbers part : List ℕ) → n ≤ length numbers → n ≤ length part → length (written n size numbers part) ≡ length part
 unfolding written

@@ -50,7 +50,10 @@ pub fn write_part(numbers: &[u32], n: usize, size: usize, part: &mut [u32])
     requires { (n ≤ length numbers.now) × (n ≤ size) × (size ≤ length part.old) × (n < 4294967296) }
     ensures { part.new ≡ written n size numbers.now part.old }
 {
-    part[..n].copy_from_slice(&numbers[..n]);
+    // A loop by hand: `copy_from_slice` calls C's `memmove`, a name that the archives for C would then need from outside.
+    for t in 0..n {
+        part[t] = numbers[t];
+    }
     if n < size {
         part[size - 1] = n as u32;
     }

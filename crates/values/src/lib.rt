@@ -142,3 +142,13 @@ pub fn spread_of(s: &[i32], from: usize, m: usize, t: Sums) -> u64
 {
     (m as u64) * t.squares - t.values * t.values
 }
+
+// The values of `q`, copied over those of `out`. A loop by hand: `copy_from_slice` calls C's `memmove`, a name that the archives for C would then need from outside.
+pub fn copy_values(q: &[i32], out: &mut [i32])
+    requires { length out.old ≡ length q.now }
+    ensures { out.new ≡ q.now }
+{
+    for j in 0..q.len() {
+        out[j] = q[j];
+    }
+}

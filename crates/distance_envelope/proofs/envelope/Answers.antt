@@ -5,4 +5,4 @@ use Rattle.distance_envelope.proofs.envelope.Goals as goal
 
 pub returns : goal.returns
 returns c =
-    passes-edge (rw c.copy_from_slice.ensures.after at c.reach_ahead.ensures) c.reach_back.ensures
+    passes-edge (rw c.copy_values.ensures at c.reach_ahead.ensures) c.reach_back.ensures
