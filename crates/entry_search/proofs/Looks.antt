@@ -1,5 +1,6 @@
--- The search after its candidates are sought: where it is refused, that is its promise (`stops`); else checking has what it asks for (`finish-asked`), and both promises are the promise of the search (`both-kept`).
-use Rattle.std.specs.Prelude.{Ok, Err}
+-- The search after its candidates are sought: checking has what it asks for (`finish-asked`), and both promises are the promise of the search (`both-kept`), where it is refused (`stops`) and where not.
+use Rattle.std.specs.Prelude.{Ok, Err, IfOk}
+use Rattle.std.specs.declared.result.Result.{Result}
 use Rattle.meaning_numbers.proofs.Prelude.{◌≡◌, sym, ap, ◌∙◌, None, List, ℕ, ℤ}
 use Rattle.meaning_rows.specs.{declared.Row.Row, declared.Head.Head}
 use Rattle.meaning_filter.specs.{declared.Ask.Ask, Matches.offset_count, Matches.candidate_at, Matches.candidate_runs}
@@ -8,6 +9,8 @@ use Rattle.meaning_entries.specs.{declared.Found.Found, declared.Refusal.Refusal
 use Rattle.meaning_entries.proofs.{Demand2.search-kept, Looked.plan-refused, Looked.room-few}
 use Rattle.refusals.specs.Refusal.{verdict_of}
 use Rattle.candidate_plan.specs.Allowed.{the_plan, plan-is, allowed}
+use Rattle.check_list.specs.{Members.members, Found.lent_runs, Found.found}
+use Rattle.check_answer.specs.Answer.{wanted, Answers}
 use Rattle.check_answer.proofs.Search.{limited, search-ends}
 use Rattle.candidate_find.specs.{declared.Sought.Sought, Sought.SoughtKept}
 use Rattle.entry_search.specs.Finished.{FinishReady, Finished}
@@ -33,9 +36,9 @@ module _ (s : List ℤ) (h : Head) (rows : List Row) (left right : List ℕ) (as
     unfolding verdict_of
     free = plan-is s h rows left right ask q b ∙ ap verdict_of goes_on
 
-    pub finish-asked : FinishReady ask s q t first last b.offsets b.distances
+    ready : FinishReady ask s q t first last b.offsets b.distances
     unfolding candidate_runs question
-    finish-asked =
+    ready =
         let g = k.left in
         record {
           limited = limited (allowed s h rows left right ask q b free);
@@ -43,9 +46,20 @@ module _ (s : List ℤ) (h : Head) (rows : List Row) (left right : List ℕ) (as
           fits = room-few here b goes_on;
         }
 
-    pub both-kept : {answer : Found} {offsets distances : List ℕ} → Finished ask s q t first last b.offsets b.distances answer offsets distances
+    looks : {answer : Found} {offsets distances : List ℕ} → Answers ask.pick (found (wanted ask s q) (members (lent_runs first last t.runs))) t.candidates answer b.offsets b.distances offsets distances
         → SearchKept here b (Ok answer) (search_buffers first last scratch offsets distances)
     unfolding looked_after
-    both-kept f =
+    looks a =
         let g = k.left in
-        search-ends s h rows left right ask q b g.handed-left g.handed-right g.runs free g.cleared g.candidates f
+        search-ends s h rows left right ask q b g.handed-left g.handed-right g.runs free g.cleared g.candidates a
+
+  -- either
+  module _ {first last scratch : List ℕ} where
+    pub finish-asked : (t : Result Sought Refusal) → SoughtKept here b t first last scratch → IfOk t (λ m. FinishReady ask s q m first last b.offsets b.distances)
+    finish-asked (Ok m) k = ready k
+    finish-asked (Err r) k = tt
+
+    pub both-kept : (t : Result Sought Refusal) {answer : Result Found Refusal} {offsets distances : List ℕ} → SoughtKept here b t first last scratch → Finished ask s q t first last b.offsets b.distances answer offsets distances
+        → SearchKept here b answer (search_buffers first last scratch offsets distances)
+    both-kept (Ok m) k f = rw f.1 (looks k f.2)
+    both-kept (Err r) k f = rw (f.0, f.1, f.2) (stops k)

@@ -1,7 +1,7 @@
 // The search of a series through a lent index (01, Candidates), in two halves: finding the candidates, which needs the rows, and checking them, which needs none.
 #![tactic(auto)]
 
-ghost use Rattle.std.specs.Prelude.{◌≡◌};
+ghost use Rattle.std.specs.Prelude.{◌≡◌, IfOk};
 ghost use Rattle.meaning_filter.specs.declared.Pick.{Pick};
 ghost use Rattle.meaning_entries.specs.Search.{lent_search, search_buffers, picking};
 ghost use Rattle.meaning_entries.specs.Demand2.{SearchKept};
@@ -13,9 +13,9 @@ use meaning_entries::{Found, Refusal};
 use meaning_filter::{Ask, Pick};
 use meaning_rows::{Head, Row};
 
-// The end of a search that looked: the candidates found are checked, the matches listed, and that is answered. The candidates stay as they are.
+// The end of a search: what refused it; or the candidates found are checked, the matches listed, and that is answered. The candidates stay as they are.
 pub fn finish(
-    sought: Sought,
+    sought: Result<Sought, Refusal>,
     ask: Ask,
     series: &[i32],
     query: &[i32],
@@ -23,11 +23,12 @@ pub fn finish(
     last: &[u32],
     offsets: &mut [u32],
     distances: &mut [u64],
-) -> Found
-    requires { FinishReady ask series.now query.now sought first.now last.now offsets.old distances.old }
+) -> Result<Found, Refusal>
+    requires { IfOk sought (λ t. FinishReady ask series.now query.now t first.now last.now offsets.old distances.old) }
     ensures { Finished ask series.now query.now sought first.now last.now offsets.old distances.old result offsets.new distances.new }
 {
-    find_matches(
+    let sought = sought?;
+    Ok(find_matches(
         ask,
         series,
         query,
@@ -37,7 +38,7 @@ pub fn finish(
         sought.candidates,
         offsets,
         distances,
-    )
+    ))
 }
 
 // The search.
@@ -59,8 +60,8 @@ pub fn search(
 {
     let sought = find_candidates(
         series, head, rows, left, right, ask, query, first, last, scratch, offsets, distances,
-    )?;
-    Ok(finish(sought, ask, series, query, first, last, offsets, distances))
+    );
+    finish(sought, ask, series, query, first, last, offsets, distances)
 }
 
 // What is asked, but for the closest few (02, item 2).
