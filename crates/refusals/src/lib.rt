@@ -20,14 +20,21 @@ use meaning_entries::{Reason, Refusal};
 use meaning_filter::{Kind, Pick};
 use values::{first_outside, spread_of, sums_at};
 
-// Refused for a reason, at place 0, where a test passes.
+// Refused with a number, whatever it stands for, at place 0, where a test passes.
+pub fn refuse_number(t: bool, number: u32) -> Result<(), Refusal>
+    ensures { result ≡ verdict (at_zero number t ∷ []) }
+{
+    if t {
+        return Err(Refusal { number, place: 0 });
+    }
+    Ok(())
+}
+
+// Refused for a reason, likewise.
 pub fn refuse_if(t: bool, reason: Reason) -> Result<(), Refusal>
     ensures { result ≡ verdict (at_zero (number_of reason) t ∷ []) }
 {
-    if t {
-        return Err(Refusal::at(reason, 0));
-    }
-    Ok(())
+    refuse_number(t, u32::from(reason))
 }
 
 // The length of a series is in its limits, where the call takes so many values at most.
