@@ -85,6 +85,7 @@ pub fn gather(
 }
 
 // Finds the candidates: judges the call, the index and the room of every buffer, and where nothing refuses the search before it looks, hands the candidates out. The list is not written.
+#[tactic(auto, using(crate::proofs::Looks::halts))]
 pub fn find_candidates(
     series: &[i32],
     head: Head,
@@ -102,7 +103,7 @@ pub fn find_candidates(
     ensures { SoughtKept (lent_search series.now head rows.now left.now right.now ask query.now) (search_buffers first.old last.old scratch.old offsets.now distances.now) result first.new last.new scratch.new }
 {
     let judged = judge(head, rows, left, right);
-    plan_search(
+    let plan = plan_search(
         series,
         head,
         judged,
@@ -113,7 +114,8 @@ pub fn find_candidates(
         scratch.len(),
         offsets.len(),
         distances.len(),
-    )?;
+    );
+    plan?;
     Ok(gather(
         series, head, rows, left, right, ask, query, first, last, scratch,
     ))
