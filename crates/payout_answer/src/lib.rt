@@ -20,5 +20,6 @@ pub fn audit_series(index: &[u8], head: Head, c: Rows, series: &[i32]) -> Result
     ensures { result ≡ audit_answer (record { series = series.now; index = text_index index.now }) }
 {
     let lacking = make_plan(series, head, judged_rows(head, c))?;
-    Ok(answer(lacking, walk_rows(index, series, head)))
+    let wrong = walk_rows(index, series, head);
+    Ok(answer(lacking, wrong))
 }

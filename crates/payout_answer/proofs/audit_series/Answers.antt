@@ -11,8 +11,8 @@ returns-in_err-lacking c =
     let e : c.from_residual.result ≡ Err c.in_err-lacking.field-0.0 = search rules in
     e ∙ stopped-right a.index.now a.series.now a.head a.c c.requires (sym (c.make_plan.ensures ∙ ap (plan_of a.series.now a.head) c.judged_rows.ensures) ∙ c.in_err-lacking.was)
 
-pub walk_rows-requires : goal.walk_rows-requires
-walk_rows-requires c =
+pub walk_rows-wrong-requires : goal.walk_rows-wrong-requires
+walk_rows-wrong-requires c =
     let a = c.args in
     goes-sized a.index.now a.series.now a.head a.c c.requires (sym (c.make_plan.ensures ∙ ap (plan_of a.series.now a.head) c.judged_rows.ensures) ∙ c.in_ok-lacking.was)
 
@@ -20,4 +20,4 @@ pub returns : goal.returns
 returns c =
     let a = c.args in
     ap (λ x. Ok x) c.answer.ensures
-    ∙ walked-right a.index.now a.series.now a.head a.c c.requires (sym (c.make_plan.ensures ∙ ap (plan_of a.series.now a.head) c.judged_rows.ensures) ∙ c.in_ok-lacking.was) c.walk_rows.result c.walk_rows.ensures
+    ∙ walked-right a.index.now a.series.now a.head a.c c.requires (sym (c.make_plan.ensures ∙ ap (plan_of a.series.now a.head) c.judged_rows.ensures) ∙ c.in_ok-lacking.was) c.walk_rows-wrong.result c.walk_rows-wrong.ensures
